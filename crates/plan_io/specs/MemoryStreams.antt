@@ -1,5 +1,5 @@
 -- Sources and sinks in memory, and what one call of each does.
-use Rattle.std.specs.Prelude.{ℕ, ◌+◌, ◌-◌, ◌≤◌, ◌<◌, ◌≡◌, ◌⊎◌, min, List, ◌++◌, length, take, drop, Contains, Result, Ok, Err}
+use Rattle.std.specs.Prelude.{ℕ, ◌-◌, ◌≤◌, ◌<◌, ◌≡◌, ◌⊎◌, min, List, ◌++◌, length, take, drop, Contains, Result, Ok, Err}
 use Rattle.plan_io.specs.Causes.{one_more}
 use Rattle.plan_io.specs.declared.streams.Failed.{Failed}
 

@@ -38,6 +38,7 @@ pub fn read_all<S: Source>(alloc: Global, source: &mut S, limit: usize) -> Resul
     ensures too_long { IsErrOf result ReadFail.TooLong → TookCount (S.left source.old) (S.left source.new) (limit + 1) }
     ensures fault { IsErrOf result ReadFail.Fault → Rose (S.faults source.old) (S.faults source.new) }
     ensures short { IsErrOf result ReadFail.Fault → TookAtMost (S.left source.old) (S.left source.new) limit }
+    ensures memory { IsErrOf result ReadFail.Memory → TookAtMost (S.left source.old) (S.left source.new) (limit + 1) }
     ensures later { S.faults source.old ≤ S.faults source.new }
 {
     let mut all = Vec::new(alloc);

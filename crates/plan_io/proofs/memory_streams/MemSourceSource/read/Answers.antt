@@ -1,5 +1,5 @@
-use Rattle.std.proofs.Common.{◌≡◌, ◌∙◌, ◌+◌, ◌-◌, ◌≤◌, ◌<◌, sym, arith, length, take, drop, ap, rules}
-use Rattle.std.proofs.lemmas.List.{drop_all, length-append, length-drop}
+use Rattle.std.proofs.Common.{◌≡◌, ◌∙◌, ◌+◌, ◌-◌, ◌≤◌, sym, arith, length, take, drop, ap, rules}
+use Rattle.std.proofs.lemmas.List.{drop_all}
 use Rattle.plan_io.proofs.Pieces.{fed}
 use Rattle.plan_io.proofs.memory_streams.MemSourceSource.read.Goals as goal
 
