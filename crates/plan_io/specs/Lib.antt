@@ -1,0 +1,6 @@
+pub mod Causes
+pub mod Bytes
+pub mod MemoryStreams
+pub mod StdStreams
+pub mod Sent
+pub mod Numbers

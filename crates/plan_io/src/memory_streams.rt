@@ -1,0 +1,151 @@
+// A source and a sink in memory, which move pieces of a chosen size and fail at chosen calls.
+ghost use Rattle.std.specs.Prelude.{◌≡◌, ◌≤◌, [], IfOk, Some, length};
+ghost use Rattle.std.specs.Io.{ReadsAtMost};
+ghost use Rattle.std.specs.Io.KnownBytes.{ReadConsumes, WriteAppends};
+ghost use Rattle.plan_io.specs.Causes.{HasCause};
+ghost use Rattle.plan_io.specs.Bytes.{TakesSome};
+ghost use Rattle.plan_io.specs.MemoryStreams.{Feed, Store, IsRead, IsWrite};
+
+use crate::{Failed, Memory, Sink, Source};
+use std::alloc::Global;
+use std::marker::Model;
+
+/// A source over bytes in memory. It always tells the bytes that are left.
+#[derive(Drop)]
+pub struct MemSource {
+    bytes: Vec<u8>,
+    at: usize,
+    most: usize,
+    fails_at: Vec<u64>,
+    count: u64,
+    failures: u64,
+}
+
+impl Model for MemSource {
+    ghost use Rattle.std.specs.Prelude.{◌≤◌, length, drop};
+    ghost use Rattle.plan_io.specs.MemoryStreams.{Feed};
+
+    ghost Value = { Feed };
+
+    ghost view = { λ s. record { left = drop s.at s.bytes.items; piece = s.most; failing = s.fails_at.items; calls = s.count; faults = s.failures } };
+
+    ghost invariant = { λ s. (s.at ≤ length s.bytes.items) × (1 ≤ s.most) };
+}
+
+impl MemSource {
+    /// A source of these bytes that gives at most `piece` bytes a call, and fails at the calls of these numbers, from
+    /// 1. Its count of faults begins at 0.
+    pub fn new(bytes: Vec<u8>, piece: usize, failing: Vec<u64>) -> MemSource
+        requires { 1 ≤ piece }
+        ensures { result ≡ record { left = bytes.items; piece = piece; failing = failing.items; calls = 0; faults = 0 } }
+    {
+        MemSource {
+            bytes,
+            at: 0,
+            most: piece,
+            fails_at: failing,
+            count: 0,
+            failures: 0,
+        }
+    }
+}
+
+impl Source for MemSource {
+    ghost left = { λ s. Some s.left };
+
+    ghost faults = { λ s. s.faults };
+
+    fn read(&mut self, into: &mut [u8]) -> Result<usize, Failed>
+        ensures bound { ReadsAtMost result into.new }
+        ensures bytes { ReadConsumes (Some self.old.left) (Some self.new.left) result into.new }
+        ensures cause { HasCause self.old.faults self.new.faults result }
+        ensures exact { IsRead self.old (length into.old) self.new result }
+    {
+        self.count = self.count.saturating_add(1);
+        if self.fails_at.contains(&self.count) {
+            self.failures = self.failures.saturating_add(1);
+            return Err(Failed);
+        }
+        let count = self.most.min(into.len()).min(self.bytes.len() - self.at);
+        into[..count].copy_from_slice(&self.bytes[self.at..self.at + count]);
+        self.at += count;
+        Ok(count)
+    }
+}
+
+/// A sink that keeps what it takes in memory. It always tells the bytes that were written.
+#[derive(Drop)]
+pub struct MemSink {
+    bytes: Vec<u8>,
+    space: usize,
+    most: usize,
+    fails_at: Vec<u64>,
+    count: u64,
+    failures: u64,
+}
+
+impl Model for MemSink {
+    ghost use Rattle.std.specs.Prelude.{◌≤◌, vec_len, vec_capacity};
+    ghost use Rattle.plan_io.specs.MemoryStreams.{Store};
+
+    ghost Value = { Store };
+
+    ghost view = { λ s. record { written = s.bytes.items; room = s.space; piece = s.most; failing = s.fails_at.items; calls = s.count; faults = s.failures } };
+
+    ghost invariant = { λ s. (vec_len s.bytes ≤ s.space) × (s.space ≤ vec_capacity s.bytes) × (1 ≤ s.most) };
+}
+
+impl MemSink {
+    /// A sink with room for `room` bytes, which it claims at once. It takes at most `piece` bytes a call, and fails at
+    /// the calls of these numbers, from 1, and where no room is left. Its count of faults begins at 0.
+    pub fn new(
+        alloc: Global,
+        room: usize,
+        piece: usize,
+        failing: Vec<u64>,
+    ) -> Result<MemSink, Memory>
+        requires { 1 ≤ piece }
+        ensures { IfOk result (λ s. s ≡ record { written = []; room = room; piece = piece; failing = failing.items; calls = 0; faults = 0 }) }
+    {
+        Ok(MemSink {
+            bytes: Vec::with_capacity(alloc, room)?,
+            space: room,
+            most: piece,
+            fails_at: failing,
+            count: 0,
+            failures: 0,
+        })
+    }
+
+    /// The bytes that were written.
+    pub fn written(&self) -> &[u8]
+        ensures { result.now ≡ self.now.written }
+    {
+        &self.bytes
+    }
+}
+
+impl Sink for MemSink {
+    ghost written = { λ s. Some s.written };
+
+    ghost faults = { λ s. s.faults };
+
+    fn write(&mut self, piece: &[u8]) -> Result<usize, Failed>
+        ensures bound { TakesSome result piece.now }
+        ensures bytes { WriteAppends (Some self.old.written) (Some self.new.written) result piece.now }
+        ensures cause { HasCause self.old.faults self.new.faults result }
+        ensures exact { IsWrite self.old piece.now self.new result }
+    {
+        self.count = self.count.saturating_add(1);
+        let left = self.space - self.bytes.len();
+        if self.fails_at.contains(&self.count) || (left == 0 && !piece.is_empty()) {
+            self.failures = self.failures.saturating_add(1);
+            return Err(Failed);
+        }
+        let count = self.most.min(piece.len()).min(left);
+        if self.bytes.extend_from_slice(&piece[..count]).is_err() {
+            unreachable!();
+        }
+        Ok(count)
+    }
+}
