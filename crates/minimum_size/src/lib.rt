@@ -11,17 +11,16 @@ pub use reduction::reduce;
 #[cfg(test)]
 mod tests {
     use crate::reduce;
-    use plan_geometry::Inst;
+    use plan_geometry::{Inst, case_fits};
     use std::test::Fail;
 
     fn reduced(l_side: u32, w_side: u32, long: u32, short: u32) -> Option<(u32, u32, u32, u32)> {
         let given = Inst::new(l_side, w_side, long, short)?;
-        if (long <= l_side && short <= w_side) || (short <= l_side && long <= w_side) {
-            let least = reduce(given);
-            Some((least.l_side, least.w_side, least.long, least.short))
-        } else {
-            None
+        if !case_fits(given) {
+            return None;
         }
+        let least = reduce(given);
+        Some((least.l_side, least.w_side, least.long, least.short))
     }
 
     #[test]
