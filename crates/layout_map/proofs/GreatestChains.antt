@@ -9,7 +9,7 @@ use Rattle.plan_geometry.specs.declared.spots.Axis.TheVariants.{X, Y}
 use Rattle.plan_geometry.specs.declared.spots.Spot.{Spot}
 use Rattle.plan_geometry.specs.declared.instances.Inst.{Inst}
 use Rattle.plan_geometry.specs.Layout.{extent, start, finish}
-use Rattle.layout_map.specs.Chains.{Chain, IsGreatestChain, IsMoved, IsChainMap, way_on, empty, link}
+use Rattle.layout_map.specs.Chains.{Chain, IsGreatestChain, IsMoved, way_on, empty, link}
 use Rattle.layout_map.specs.Laws.{ChainMapExists, ChainMapIsOne}
 
 -- a case reaches at least one unit along each axis
