@@ -1,12 +1,12 @@
 use crate::{Cert, Mark, Marks, StripCert, StripCut, WeightTable, Weighting, lead};
-use plan_geometry::{Inst, area_bound};
+use plan_geometry::{Inst, area_bound, case_fits};
 use plan_memory::Memory;
 use std::alloc::Global;
 use std::test::Fail;
 
-// What a weighting gives on a pallet on which a case fits lying: the total, the least weight, the bound.
+// What a weighting gives on a pallet on which a case fits: the total, the least weight, the bound.
 fn measures(weighting: &Weighting, inst: Inst) -> Option<(u64, u64, Option<u32>)> {
-    if !weighting.belongs(inst) || inst.long > inst.l_side || inst.short > inst.w_side {
+    if !weighting.belongs(inst) || !case_fits(inst) {
         return None;
     }
     Some((
@@ -16,12 +16,13 @@ fn measures(weighting: &Weighting, inst: Inst) -> Option<(u64, u64, Option<u32>)
     ))
 }
 
-// The lead, where a case fits lying.
+// The lead, where a case fits.
 fn lead_of(inst: Inst) -> Option<Weighting> {
-    if inst.long > inst.l_side || inst.short > inst.w_side {
-        return None;
+    if case_fits(inst) {
+        Some(lead(inst))
+    } else {
+        None
     }
-    Some(lead(inst))
 }
 
 // The table of five by five cells with a heavy cell in the third row.
