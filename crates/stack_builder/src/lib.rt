@@ -1,0 +1,15 @@
+// How many layers an order allows, and the least stack of variants in which each two neighbours meet the
+// rules that it asks for.
+#![tactic(auto)]
+
+mod answers;
+mod lists;
+mod pairs;
+mod reaches;
+mod stacks;
+
+pub use answers::{layers_allowed, stack};
+pub use lists::{StackAnswer, UnmetRule, UnmetRules, VariantNumbers};
+
+#[cfg(test)]
+mod tests;
