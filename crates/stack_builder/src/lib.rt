@@ -8,8 +8,5 @@ mod pairs;
 mod reaches;
 mod stacks;
 
-pub use answers::{layers_allowed, stack};
 pub use lists::{StackAnswer, UnmetRule, UnmetRules, VariantNumbers};
-
-#[cfg(test)]
-mod tests;
+pub use answers::{asked, stack_under};
