@@ -24,6 +24,7 @@ const GREATEST_SIDE: u64 = 4000;
 const GREATEST_GAP: u64 = 100;
 
 // The id is not empty, not too long, and plain text.
+#[tactic(auto, unfolding(crate::specs::Faults::is_id))]
 pub(crate) fn is_id(id: &[u8]) -> bool
     ensures { result ≡ is_id_text id.now }
 {
@@ -72,7 +73,11 @@ fn first_without_number(columns: &[Field], fields: &ByteRecord) -> Option<Field>
 pub(crate) fn numbers_of(fields: &ByteRecord) -> [u64; 12]
     ensures { result ≡ map (value_under (fields_of fields.now)) all_columns }
 {
-    FIELDS.map(|field| number_under(fields, field).unwrap_or(0))
+    let mut numbers = [0; 12];
+    for (place, field) in FIELDS.iter().enumerate() {
+        numbers[place] = number_under(fields, *field).unwrap_or(0);
+    }
+    numbers
 }
 
 // The least number of a column.
@@ -141,6 +146,7 @@ fn first_outside(columns: &[Field], numbers: &[u64; 12]) -> Option<Field>
 }
 
 // A case fits on the pallet, in some way.
+#[tactic(auto, unfolding(crate::specs::Faults::fits))]
 fn is_fitting(pallet_x: u64, pallet_y: u64, long: u64, short: u64) -> bool
     ensures { result ≡ fits pallet_x pallet_y long short }
 {
@@ -148,6 +154,7 @@ fn is_fitting(pallet_x: u64, pallet_y: u64, long: u64, short: u64) -> bool
 }
 
 // The pallet's cells hold at most 1,000 times a case's cells.
+#[tactic(auto, unfolding(crate::specs::Faults::is_small))]
 fn is_few(pallet_x: u64, pallet_y: u64, long: u64, short: u64) -> bool
     requires pallet_x { pallet_x ≤ 4100 }
     requires pallet_y { pallet_y ≤ 4100 }

@@ -1,5 +1,6 @@
 // The number columns of an orders file.
-ghost use Rattle.std.specs.Prelude.{◌≡◌, Some, IfSome};
+ghost use Rattle.std.specs.Prelude.{◌≡◌, Some, IfSome, find};
+ghost use Rattle.std.specs.Str.{bytes_eq};
 ghost use Rattle.order_reader.specs.Columns.{column_name, place_of, all_columns};
 
 use std::fmt;
@@ -80,12 +81,7 @@ impl Field {
         ensures found { IfSome result (λ field. column_name field ≡ name.now) }
         ensures each { (field : Field) → column_name field ≡ name.now → result ≡ Some field }
     {
-        for field in &FIELDS {
-            if field.name().as_bytes() == name {
-                return Some(*field);
-            }
-        }
-        None
+        first_named(&FIELDS, name)
     }
 
     // The place among the number columns, from 0.
@@ -94,6 +90,18 @@ impl Field {
     {
         self as usize
     }
+}
+
+// The first of these columns that has this name.
+fn first_named(columns: &[Field], name: &[u8]) -> Option<Field>
+    ensures { result ≡ find (λ field. bytes_eq (column_name field) name.now) columns.now }
+{
+    for field in columns {
+        if field.name().as_bytes() == name {
+            return Some(*field);
+        }
+    }
+    None
 }
 
 impl fmt::Display for Field {

@@ -80,7 +80,10 @@ fn columns_of(fields: &ByteRecord) -> Option<&'static [Field]>
 fn is_header_over(fields: &ByteRecord, columns: &[Field]) -> bool
     ensures { result ≡ same_fields (fields_of fields.now) (header_over columns.now) }
 {
-    if fields.len() != columns.len() + 1 || id_of(fields) != b"id".as_slice() {
+    if fields.len() != columns.len() + 1 {
+        return false;
+    }
+    if id_of(fields) != b"id".as_slice() {
         return false;
     }
     for (place, column) in columns.iter().enumerate() {

@@ -1,0 +1,3 @@
+pub mod FindFacts
+pub mod OrderFacts
+pub mod Counted
