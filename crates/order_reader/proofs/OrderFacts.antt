@@ -8,8 +8,8 @@ use Rattle.order_reader.specs.declared.fields.Field.TheVariants.{PalletX, Pallet
 use Rattle.order_reader.specs.declared.faults.RowFault.{RowFault}
 use Rattle.order_reader.specs.declared.faults.RowFault.TheVariants.{BadId, OutOfRange, DoesNotFit, TooManyCases}
 use Rattle.order_reader.specs.Columns.{place_of, all_columns}
-use Rattle.order_reader.specs.Orders.{OrderValue, number_in, pallet_x_of, pallet_y_of, case_x_of, case_y_of, long_of, short_of, gap_of}
-use Rattle.order_reader.specs.Faults.{first_of, is_id, id_fault, least_in, greatest_in, greatest_gap_of, is_in_range, range_fault, fits, fit_fault, is_small, case_count_fault, order_fault, IsOrder}
+use Rattle.order_reader.specs.Orders.{OrderValue, order_with, number_in, pallet_x_of, pallet_y_of, case_x_of, case_y_of, long_of, short_of, gap_of}
+use Rattle.order_reader.specs.Faults.{first_of, sides_fault, numbers_fault, is_id, id_fault, least_in, greatest_in, greatest_gap_of, is_in_range, range_fault, fits, fit_fault, is_small, case_count_fault, order_fault, IsOrder}
 use Rattle.order_reader.specs.Instances.{AreInRange}
 use Rattle.order_reader.proofs.FindFacts.{find-none}
 
@@ -94,13 +94,19 @@ greatest-limited gap Support le = omega arith
 greatest-limited gap Cut le = omega arith
 greatest-limited gap Gap le = omega arith
 
-pub number-limited : (o : OrderValue) → AreInRange o → (k : ℕ) → k < 12 → get_or o.numbers k 0 ≤ 100000000
-number-limited o ranges k lt =
-    let at = column-of k lt in
+-- the default makes no difference at a place that is there
+get-same : (xs : List ℕ) (k d e : ℕ) → k < length xs → get_or xs k d ≡ get_or xs k e
+get-same [] k d e lt = absurd (omega arith)
+get-same (x ∷ xs) zero d e lt = refl
+get-same (x ∷ xs) (suc k) d e lt = get-same xs k d e (omega arith)
+
+pub number-limited : (o : OrderValue) → AreInRange o → length o.numbers ≡ 12 → (k d : ℕ) → k < length o.numbers → get_or o.numbers k d ≤ 100000000
+number-limited o ranges twelve k d lt =
+    let at = column-of k (omega arith) in
     let own = ranges at.0 in
     let most = greatest-limited (greatest_gap_of o) at.0 (omega arith) in
     let limited : number_in o at.0 ≤ 100000000 = omega arith in
-    subst (λ (n : ℕ). get_or o.numbers n 0 ≤ 100000000) at.1 limited
+    rw (get-same o.numbers k d 0 lt) (subst (λ (n : ℕ). get_or o.numbers n 0 ≤ 100000000) at.1 limited)
 
 -- the sides of an order's pallet and case, and its gap
 pub record HasSides (o : OrderValue) : Type 0 where
@@ -134,7 +140,7 @@ sides-hold o ranges =
     }
 
 -- the first of two parts of a list of tests, and the rest
-first_of-none : (test : Option RowFault) (tests : List (Option RowFault)) → first_of (test ∷ tests) ≡ None → (test ≡ None) × (first_of tests ≡ None)
+pub first_of-none : (test : Option RowFault) (tests : List (Option RowFault)) → first_of (test ∷ tests) ≡ None → (test ≡ None) × (first_of tests ≡ None)
 first_of-none None tests is = (refl, is)
 first_of-none (Some fault) tests is = cc
 
@@ -151,7 +157,7 @@ pub record Passes (o : OrderValue) : Type 0 where
 
 pub passes : (o : OrderValue) → IsOrder o → Passes o
 passes o is =
-    let first = first_of-none (id_fault o) (range_fault o ∷ fit_fault o ∷ case_count_fault o ∷ []) is in
+    let first = first_of-none (id_fault o) (range_fault o ∷ fit_fault o ∷ case_count_fault o ∷ []) is.passes in
     let second = first_of-none (range_fault o) (fit_fault o ∷ case_count_fault o ∷ []) first.1 in
     let third = first_of-none (fit_fault o) (case_count_fault o ∷ []) second.1 in
     let fourth = first_of-none (case_count_fault o) [] third.1 in
@@ -184,3 +190,23 @@ pub plain-each : (id : List ℕ) → list_all (λ b. nat_le 32 b && nat_le b 126
 plain-each [] is k d lt = absurd (omega arith)
 plain-each (b ∷ bs) is zero d lt = (grind (arith, nat_tests), grind (arith, nat_tests))
 plain-each (b ∷ bs) is (suc k) d lt = plain-each bs (grind (arith, nat_tests)) k d (omega arith)
+
+-- a test that finds nothing leaves the answer to the rest, and one that finds a fault is the answer
+pub first_of-next : (test : Option RowFault) (tests : List (Option RowFault)) → test ≡ None → first_of (test ∷ tests) ≡ first_of tests
+first_of-next None tests is = refl
+first_of-next (Some fault) tests is = cc
+
+pub first_of-here : (test : Option RowFault) (tests : List (Option RowFault)) (fault : RowFault) → test ≡ Some fault → first_of (test ∷ tests) ≡ Some fault
+first_of-here None tests fault is = cc
+first_of-here (Some told) tests fault is = is
+
+-- the tests of the numbers do not look at the id
+pub numbers-of_order : (id numbers own : List ℕ) → is_id id ≡ true → own ≡ numbers → numbers_fault (order_with [] own) ≡ order_fault (order_with id numbers)
+numbers-of_order id numbers own good same = rw (good, same) refl
+
+-- a case that fits is no longer than the pallet
+pub long-limited : (o : OrderValue) → IsOrder o → long_of o + gap_of o ≤ 4000
+long-limited o is =
+    let all = passes o is in
+    let sides = sides-hold o all.ranges in
+    elim (fits-ways (pallet_x_of o) (pallet_y_of o) (long_of o) (short_of o) all.fitting) [ inl lying ↦ omega (arith, lying.0) | inr standing ↦ omega (arith, standing.1) ]

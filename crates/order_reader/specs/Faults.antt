@@ -113,9 +113,10 @@ numbers_fault o = first_of (range_fault o ∷ fit_fault o ∷ case_count_fault o
 abbrev pub order_fault : OrderValue → Option RowFault
 order_fault o = first_of (id_fault o ∷ range_fault o ∷ fit_fault o ∷ case_count_fault o ∷ [])
 
--- an order passes all tests
-abbrev pub IsOrder : OrderValue → Type 0
-IsOrder o = order_fault o ≡ None
+-- an order has twelve numbers, and passes all tests
+pub record IsOrder (o : OrderValue) : Type 0 where
+  pub twelve : length o.numbers ≡ 12
+  pub passes : order_fault o ≡ None
 
 -- the id and the numbers that a row writes; a column that the row has no number under counts as 0, as the gap
 -- does under the header without it

@@ -7,7 +7,7 @@ ghost use Rattle.order_reader.specs.Orders.{order_with, number_in};
 ghost use Rattle.order_reader.specs.Faults.{is_id as is_id_text, id_in, number_under as number_in_column, has_number, value_under, least_in, greatest_gap_of, greatest_in, is_in_range as is_in_range_of, range_fault, fits, is_small, sides_fault, numbers_fault, row_fault};
 
 use crate::faults::RowFault;
-use crate::fields::{FIELDS, Field};
+use crate::fields::{Field, all_fields};
 use csv::ByteRecord;
 use plan_io::number_of;
 
@@ -74,7 +74,7 @@ pub(crate) fn numbers_of(fields: &ByteRecord) -> [u64; 12]
     ensures { result ≡ map (value_under (fields_of fields.now)) all_columns }
 {
     let mut numbers = [0; 12];
-    for (place, field) in FIELDS.iter().enumerate() {
+    for (place, field) in all_fields().iter().enumerate() {
         numbers[place] = number_under(fields, *field).unwrap_or(0);
     }
     numbers
@@ -169,7 +169,7 @@ fn is_few(pallet_x: u64, pallet_y: u64, long: u64, short: u64) -> bool
 pub(crate) fn fault_of_numbers(numbers: &[u64; 12]) -> Option<RowFault>
     ensures { result ≡ numbers_fault (order_with [] numbers.now) }
 {
-    if let Some(field) = first_outside(&FIELDS, numbers) {
+    if let Some(field) = first_outside(all_fields(), numbers) {
         return Some(RowFault::OutOfRange { field });
     }
     fault_of_sides(numbers)

@@ -1,7 +1,7 @@
 // The number columns of an orders file.
-ghost use Rattle.std.specs.Prelude.{◌≡◌, Some, IfSome, find};
+ghost use Rattle.std.specs.Prelude.{◌≡◌, Some, IfSome, find, length};
 ghost use Rattle.std.specs.Str.{bytes_eq};
-ghost use Rattle.order_reader.specs.Columns.{column_name, place_of, all_columns};
+ghost use Rattle.order_reader.specs.Columns.{column_name, place_of, columns_before_gap, all_columns};
 
 use std::fmt;
 
@@ -22,8 +22,7 @@ pub enum Field {
     Gap,
 }
 
-/// The number columns of the shorter header.
-pub(crate) static FIELDS_BEFORE_GAP: [Field; 11] = [
+static FIELDS_BEFORE_GAP: [Field; 11] = [
     Field::PalletX,
     Field::PalletY,
     Field::CaseX,
@@ -37,8 +36,7 @@ pub(crate) static FIELDS_BEFORE_GAP: [Field; 11] = [
     Field::Cut,
 ];
 
-/// The number columns of the longer header.
-pub(crate) static FIELDS: [Field; 12] = [
+static FIELDS: [Field; 12] = [
     Field::PalletX,
     Field::PalletY,
     Field::CaseX,
@@ -52,6 +50,23 @@ pub(crate) static FIELDS: [Field; 12] = [
     Field::Cut,
     Field::Gap,
 ];
+
+/// The number columns of the header with the gap.
+#[tactic(auto, unfolding(crate::specs::Columns::all_columns))]
+pub(crate) fn all_fields() -> &'static [Field]
+    ensures all { result.now ≡ all_columns }
+    ensures twelve { length result.now ≡ 12 }
+{
+    &FIELDS
+}
+
+/// The number columns of the header without the gap.
+#[tactic(auto, unfolding(crate::specs::Columns::columns_before_gap))]
+pub(crate) fn fields_before_gap() -> &'static [Field]
+    ensures { result.now ≡ columns_before_gap }
+{
+    &FIELDS_BEFORE_GAP
+}
 
 impl Field {
     ghost use Rattle.order_reader.specs.declared.fields.Field.{Field};
@@ -81,7 +96,7 @@ impl Field {
         ensures found { IfSome result (λ field. column_name field ≡ name.now) }
         ensures each { (field : Field) → column_name field ≡ name.now → result ≡ Some field }
     {
-        first_named(&FIELDS, name)
+        first_named(all_fields(), name)
     }
 
     // The place among the number columns, from 0.

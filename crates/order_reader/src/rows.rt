@@ -8,7 +8,7 @@ ghost use Rattle.order_reader.specs.Rows.{row_of, rows_of_records, rows_of};
 
 use crate::checks::id_of;
 use crate::faults::{OrderFail, RowFault};
-use crate::fields::{FIELDS, FIELDS_BEFORE_GAP, Field};
+use crate::fields::{Field, all_fields, fields_before_gap};
 use crate::orders::{Order, order_of};
 use crate::records::read_records;
 use csv::ByteRecord;
@@ -67,13 +67,13 @@ pub fn read_orders(alloc: Global, bytes: &[u8]) -> Result<Vec<Row>, ReadStop>
 fn columns_of(fields: &ByteRecord) -> Option<&'static [Field]>
     ensures { option_map (λ s. s.now) result ≡ columns_under (fields_of fields.now) }
 {
-    if is_header_over(fields, &FIELDS_BEFORE_GAP) {
-        Some(&FIELDS_BEFORE_GAP)
-    } else if is_header_over(fields, &FIELDS) {
-        Some(&FIELDS)
-    } else {
-        None
+    if is_header_over(fields, fields_before_gap()) {
+        return Some(fields_before_gap());
     }
+    if is_header_over(fields, all_fields()) {
+        return Some(all_fields());
+    }
+    None
 }
 
 // The record is the header over these number columns.
@@ -110,6 +110,7 @@ fn read_rows(alloc: Global, columns: &[Field], records: &[ByteRecord]) -> Result
     Ok(rows)
 }
 
+#[tactic(auto, unfolding(crate::specs::Rows::row_of))]
 fn read_row(
     alloc: Global,
     columns: &[Field],
