@@ -19,7 +19,7 @@ real-fits o I is real = elim (fits-ways (pallet_x_of o) (pallet_y_of o) (long_of
 pub given-small : (o : OrderValue) (J : Inst) → IsOrder o → IsGivenOf o J → area_bound_of J ≤ 1000
 given-small o J is given =
     rw (given.l_side, given.w_side, given.long, given.short)
-        (small-bound (pallet_x_of o + gap_of o) (pallet_y_of o + gap_of o) (long_of o + gap_of o) (short_of o + gap_of o) (passes o is).small)
+    (small-bound (pallet_x_of o + gap_of o) (pallet_y_of o + gap_of o) (long_of o + gap_of o) (short_of o + gap_of o) (passes o is).small)
 
 -- what is said of one real instance is said of each, since there is only one
 pub layouts-each : (o : OrderValue) (R J : Inst) (gap : ℕ) → gap ≡ gap_of o → ((I : Inst) → IsRealOf o I → I ≡ R) → SameLayouts R gap J

@@ -79,9 +79,9 @@ row-numbers columns fields numbers size good none same =
     let o = order_in fields in
     let rest = range_fault o ∷ fit_fault o ∷ case_count_fault o ∷ [] in
     let skipped : row_fault columns fields ≡ first_of rest
-        = first_of-next (field_count_fault columns fields) (id_fault o ∷ number_fault columns fields ∷ rest) count
-        ∙ first_of-next (id_fault o) (number_fault columns fields ∷ rest) id
-        ∙ first_of-next (number_fault columns fields) rest number in
+    = first_of-next (field_count_fault columns fields) (id_fault o ∷ number_fault columns fields ∷ rest) count
+    ∙ first_of-next (id_fault o) (number_fault columns fields ∷ rest) id
+    ∙ first_of-next (number_fault columns fields) rest number in
     rw same (sym skipped)
 
 -- a row without a fault is an order

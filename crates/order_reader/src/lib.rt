@@ -14,3 +14,6 @@ pub use fields::Field;
 pub use orders::Order;
 pub use plan_memory::Memory;
 pub use rows::{MOST_ROWS, ReadStop, Row, read_orders};
+
+#[cfg(test)]
+mod tests;

@@ -16,6 +16,6 @@ loop-place-preserved c =
     let taken : take (place + 1) records ≡ take place records ++ own ∷ [] = take_more records place own c.loop-place-test.true ∙ ap (λ (r : Row). take place records ++ r ∷ []) (sym c.index-records-place.is) in
     let size : length before ≡ place = omega (arith, length-map (take place records) fields_of, length-take place records) in
     let step : rows_of_records columns (map fields_of (take (place + 1) records)) ≡ rows_of_records columns before ++ row_of columns (length before + 1) (fields_of own) ∷ []
-        = rw (taken, map-append fields_of (take place records) (own ∷ [])) (rows-more columns before (fields_of own)) in
+    = rw (taken, map-append fields_of (take place records) (own ∷ [])) (rows-more columns before (fields_of own)) in
     let row : c.in_ok-row.row ≡ row_of columns (length before + 1) (fields_of own) = rw size c.in_ok-row.ensures in
     rw (c.in_ok-push.ensures.items, step, ← row, ← c.loop-place.invariant) refl

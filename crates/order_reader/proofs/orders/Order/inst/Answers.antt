@@ -30,9 +30,9 @@ returns-clause-same_bounds c = bounds-each c.args.self.now c.real.result c.in-So
 pub returns-clause-layers : goal.returns-clause-layers
 returns-clause-layers c =
     layers-are c.args.self.now c.real.result c.in-Some.inst c.real.ensures.real
-        (layouts-each c.args.self.now c.real.result c.in-Some.inst c.gap.result c.gap.ensures.gap c.real.ensures.only c.in-Some.ensures.layouts)
+    (layouts-each c.args.self.now c.real.result c.in-Some.inst c.gap.result c.gap.ensures.gap c.real.ensures.only c.in-Some.ensures.layouts)
 
 pub returns-clause-bounds : goal.returns-clause-bounds
 returns-clause-bounds c =
     bounds-are c.args.self.now c.real.result c.in-Some.inst c.real.ensures.real
-        (bounds-each c.args.self.now c.real.result c.in-Some.inst c.gap.result c.gap.ensures.gap c.real.ensures.only c.in-Some.ensures.bounds)
+    (bounds-each c.args.self.now c.real.result c.in-Some.inst c.gap.result c.gap.ensures.gap c.real.ensures.only c.in-Some.ensures.bounds)
