@@ -4,9 +4,13 @@
 
 mod answers;
 mod lists;
+mod orders;
 mod pairs;
 mod reaches;
 mod stacks;
 
 pub use lists::{StackAnswer, UnmetRule, UnmetRules, VariantNumbers};
-pub use answers::{asked, stack_under};
+pub use orders::{layers_allowed, stack};
+
+#[cfg(test)]
+mod tests;

@@ -80,8 +80,14 @@ impl StackAnswer {
         ensures { IsTrue result ↔ (self.now ≡ other.now) }
     {
         match (self, other) {
-            (StackAnswer::Stack(a), StackAnswer::Stack(b)) => same_numbers(a.as_slice(), b.as_slice()),
-            (StackAnswer::Unmet(a), StackAnswer::Unmet(b)) => same_rules(a.as_slice(), b.as_slice()),
+            (StackAnswer::Stack(a), StackAnswer::Stack(b)) => same_numbers(
+                a.as_slice(),
+                b.as_slice(),
+            ),
+            (StackAnswer::Unmet(a), StackAnswer::Unmet(b)) => same_rules(
+                a.as_slice(),
+                b.as_slice(),
+            ),
             (StackAnswer::Stack(_), StackAnswer::Unmet(_))
             | (StackAnswer::Unmet(_), StackAnswer::Stack(_)) => false,
         }

@@ -11,7 +11,14 @@ use plan_memory::Memory;
 use std::alloc::Global;
 
 // Whether two of the variants, the first of them below, meet a rule; their numbers are one more.
-fn pair_meets(inst: Inst, gap: u32, rule: Rule, variants: &[(Move, Layer)], v: usize, w: usize) -> bool
+fn pair_meets(
+    inst: Inst,
+    gap: u32,
+    rule: Rule,
+    variants: &[(Move, Layer)],
+    v: usize,
+    w: usize,
+) -> bool
     requires gap { IsGapOf inst gap }
     requires rule { IsLawfulRule rule }
     requires variants { AreOf inst variants.now }
@@ -23,7 +30,14 @@ fn pair_meets(inst: Inst, gap: u32, rule: Rule, variants: &[(Move, Layer)], v: u
 }
 
 // Whether they meet all rules.
-fn pair_goes(inst: Inst, gap: u32, rules: &[Rule], variants: &[(Move, Layer)], v: usize, w: usize) -> bool
+fn pair_goes(
+    inst: Inst,
+    gap: u32,
+    rules: &[Rule],
+    variants: &[(Move, Layer)],
+    v: usize,
+    w: usize,
+) -> bool
     requires gap { IsGapOf inst gap }
     requires rules { All IsLawfulRule rules.now }
     requires variants { AreOf inst variants.now }

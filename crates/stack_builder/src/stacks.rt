@@ -22,7 +22,12 @@ fn first_start(count: usize, reach: &[u32], j: u32) -> Option<usize>
 
 /// The lexicographically least list of n of the numbers from 1 to count in which each two neighbours go
 /// together, by a table of count rows; None where there is no such list.
-pub fn least_stack(alloc: Global, goes: &[bool], count: usize, n: u32) -> Result<Option<Vec<u32>>, Memory>
+pub fn least_stack(
+    alloc: Global,
+    goes: &[bool],
+    count: usize,
+    n: u32,
+) -> Result<Option<Vec<u32>>, Memory>
     requires count { count ≤ 8 }
     requires n { n ≤ 10000 }
     requires size { length goes.now ≡ count * count }
