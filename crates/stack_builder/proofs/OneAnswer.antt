@@ -1,6 +1,5 @@
 -- There is one answer; and of no layer or one there is a stack.
-use Rattle.std.proofs.Common.{◌≡◌, ℕ, zero, suc, ◌+◌, ◌<◌, ◌≤◌, ◌⊎◌, ◌↔◌, Bool, true, false, List, [], ◌∷◌, length, get_or, map, IsTrue, ap, sym, subst, refl, ◌∙◌, inl, inr, arith}
-use Rattle.std.specs.List.{All}
+use Rattle.std.proofs.Common.{◌≡◌, ℕ, zero, suc, ◌<◌, ◌≤◌, ◌↔◌, Bool, true, false, List, [], ◌∷◌, length, get_or, IsTrue, ap, sym, subst, refl, ◌∙◌, inl, inr, arith}
 use Rattle.std.proofs.lemmas.Bool.{cases_order}
 use Rattle.std.proofs.lemmas.List.{same_lists, get_or-map, length-map}
 use Rattle.plan_geometry.specs.declared.instances.Inst.{Inst}
@@ -10,7 +9,7 @@ use Rattle.contact_rules.specs.declared.rules.Rule.{Rule}
 use Rattle.stack_builder.specs.declared.lists.UnmetRule.{UnmetRule}
 use Rattle.stack_builder.specs.declared.lists.StackAnswer.{StackAnswer}
 use Rattle.stack_builder.specs.declared.lists.StackAnswer.TheVariants.{Stack, Unmet}
-use Rattle.stack_builder.specs.Stack.{IsStack, ComesBefore, IsLeastStack, HasNoStack}
+use Rattle.stack_builder.specs.Stack.{ComesBefore, IsLeastStack, HasNoStack}
 use Rattle.stack_builder.specs.Pairs.{GoTogether, IsAlone}
 use Rattle.stack_builder.specs.Answers.{AreMarked, IsStackAnswer, IsListed}
 use Rattle.stack_builder.proofs.StackSteps.{stack-none, stack-one}

@@ -1,5 +1,5 @@
 -- An order's instance is one, and each of its numbers contains the gap.
-use Rattle.std.proofs.Common.{◌≡◌, ℕ, ◌+◌, ◌<◌, ◌≤◌, List, ap, sym, subst, ◌∙◌, arith}
+use Rattle.std.proofs.Common.{◌≡◌, ℕ, List, ap, sym, subst, ◌∙◌, arith}
 use Rattle.std.specs.List.{All}
 use Rattle.plan_geometry.specs.declared.instances.Inst.{Inst}
 use Rattle.plan_geometry.specs.Placed.{Placed}

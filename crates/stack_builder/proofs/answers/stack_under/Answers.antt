@@ -1,5 +1,4 @@
-use Rattle.std.proofs.Common.{◌≡◌, ℕ, ◌↔◌, length, List, Bool, sym, subst}
-use Rattle.plan_geometry.specs.declared.instances.Inst.{Inst}
+use Rattle.std.proofs.Common.{◌↔◌, length, List, Bool, sym, subst}
 use Rattle.stack_builder.specs.declared.lists.StackAnswer.{StackAnswer}
 use Rattle.stack_builder.specs.declared.lists.StackAnswer.TheVariants.{Stack, Unmet}
 use Rattle.stack_builder.specs.Goes.{GoesIn}

@@ -1,5 +1,4 @@
-use Rattle.std.proofs.Common.{◌≡◌, ◌∙◌, List, sym, subst}
-use Rattle.contact_rules.specs.declared.rules.Rule.{Rule}
+use Rattle.std.proofs.Common.{◌≡◌, ◌∙◌, sym, subst}
 use Rattle.contact_rules.specs.Real.{IsGapOf}
 use Rattle.order_reader.specs.Orders.{gap_of, contact_of, support_of, cut_of}
 use Rattle.stack_builder.specs.Orders.{rules_of}

@@ -1,4 +1,4 @@
-use Rattle.std.proofs.Common.{◌≡◌, ◌∙◌, sym, subst}
+use Rattle.std.proofs.Common.{◌∙◌, sym, subst}
 use Rattle.order_reader.specs.Instances.{IsGivenOf}
 use Rattle.stack_builder.proofs.tests.variants_of.Goals as goal
 
