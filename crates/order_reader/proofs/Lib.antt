@@ -1,0 +1,6 @@
+pub mod Counted
+pub mod FindFacts
+pub mod OrderFacts
+pub mod RowFacts
+pub mod InstFacts
+pub mod FieldFacts

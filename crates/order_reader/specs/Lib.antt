@@ -1,0 +1,6 @@
+pub mod Records
+pub mod Columns
+pub mod Orders
+pub mod Faults
+pub mod Instances
+pub mod Rows

@@ -1,0 +1,26 @@
+// Why a row is refused.
+use crate::fields::Field;
+
+/// Why a row is refused: the first test that it fails. Where a number is at fault, the leftmost is named.
+#[derive(Clone, Copy, PartialEq, Eq, Debug)]
+pub enum RowFault {
+    /// Not as many fields as the header has.
+    FieldCount,
+    /// The id has not 1 to 40 bytes, each from 32 to 126.
+    BadId,
+    /// The field is neither `0` nor a digit from 1 to 9 followed by at most nine digits.
+    BadNumber { field: Field },
+    /// The number is outside its column's range.
+    OutOfRange { field: Field },
+    /// The case fits on the pallet in neither way.
+    DoesNotFit,
+    /// The pallet's area, grown by the gap, is too large for the case, grown by the gap.
+    TooManyCases,
+}
+
+/// Why an order was not made.
+#[derive(Clone, Copy, PartialEq, Eq, Debug)]
+pub enum OrderFail {
+    Fault(RowFault),
+    Memory,
+}

@@ -1,0 +1,26 @@
+// The records of an orders file, by the csv crate's reader.
+ghost use Rattle.std.specs.Prelude.{◌≡◌, IfOk, map};
+ghost use Rattle.csv.specs.Records.{fields_of};
+ghost use Rattle.order_reader.specs.Records.{records_of};
+
+use csv::{ByteRecord, ReaderBuilder};
+use plan_memory::Memory;
+use std::alloc::Global;
+
+// All records of a file, the header among them.
+pub(crate) fn read_records(alloc: Global, bytes: &[u8]) -> Result<Vec<ByteRecord>, Memory>
+    ensures { IfOk result (λ v. map fields_of v.items ≡ records_of bytes.now) }
+{
+    let reader = ReaderBuilder::new()
+        .has_headers(false)
+        .flexible(true)
+        .from_reader(alloc, bytes);
+    let mut records = Vec::new(alloc);
+    for record in reader.into_byte_records() {
+        let Ok(record) = record else {
+            return Err(Memory);
+        };
+        records.push(record)?;
+    }
+    Ok(records)
+}
