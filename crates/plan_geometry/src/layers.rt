@@ -5,8 +5,8 @@ ghost use Rattle.plan_geometry.specs.Grid.{grid_count, uniform_way, IsGrid};
 
 use crate::instances::Inst;
 use crate::layouts::{extent_along, is_layout};
-use plan_memory::Memory;
 use crate::spots::{Axis, Spot, Way};
+use plan_memory::Memory;
 use std::alloc::Global;
 use std::marker::Model;
 
@@ -27,13 +27,6 @@ impl Model for Layer {
     ghost invariant = { λ a. IsLayer a.inst a.spots.items };
 }
 
-// The place of a case in the order of y, then x.
-fn place(spot: Spot) -> u64
-    ensures { result ≡ spot.y * 2 ^ 32 + spot.x }
-{
-    u64::from(spot.y) * 4294967296 + u64::from(spot.x)
-}
-
 impl Layer {
     /// The layer of these cases; None exactly where they are no layout.
     pub fn new(inst: Inst, mut spots: Vec<Spot>) -> Option<Layer>
@@ -45,7 +38,7 @@ impl Layer {
         if !is_layout(inst, spots.as_slice()) {
             return None;
         }
-        spots.as_mut_slice().sort_unstable_by_key(|s| place(*s));
+        spots.as_mut_slice().sort_unstable_by_key(|s| (s.y, s.x));
         Some(Layer { inst, spots })
     }
 

@@ -1,0 +1,5 @@
+pub mod RunSteps
+pub mod CellSteps
+pub mod SpanSteps
+pub mod FewSteps
+pub mod AreaSteps

@@ -1,0 +1,3 @@
+pub mod TurnSteps
+pub mod VariantSteps
+pub mod OneList

@@ -1,0 +1,5 @@
+pub mod ChainMap
+pub mod GreatestChains
+pub mod Admits
+pub mod Moves
+pub mod ListChains

@@ -1,0 +1,3 @@
+pub mod LeastSides
+pub mod Reduced
+pub mod Areas

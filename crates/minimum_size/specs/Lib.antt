@@ -1,0 +1,2 @@
+pub mod LeastSide
+pub mod Reduced

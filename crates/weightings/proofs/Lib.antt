@@ -1,0 +1,10 @@
+pub mod Counts
+pub mod LineSteps
+pub mod Blocks
+pub mod WeightSteps
+pub mod LeadSteps
+pub mod Colours
+pub mod Rarest
+pub mod FamilySteps
+pub mod SumSteps
+pub mod BlockSteps
