@@ -1,5 +1,5 @@
 -- A grid has no more cases than the pallet's cells hold.
-use Rattle.std.proofs.Common.{ℕ, ◌+◌, ◌*◌, ◌/◌, ◌≤◌, ◌<◌, arith}
+use Rattle.std.proofs.Common.{ℕ, ◌*◌, ◌/◌, ◌≤◌, ◌<◌, arith}
 use Rattle.std.proofs.lemmas.Nat.{le-div}
 use Rattle.std.proofs.Math.Nat.{div-mul-le_self, mul-le-mul, mul-pos, mul_comm}
 use Rattle.plan_geometry.specs.Layout.{area_bound_of}

@@ -1,9 +1,9 @@
 -- Texts that were written whole, and texts of which a part was written.
-use Rattle.std.proofs.Common.{◌≡◌, ℕ, List, ◌++◌, refl, sym, ap, ◌∙◌, append_assoc, Option, length, take, drop}
+use Rattle.std.proofs.Common.{ℕ, List, ◌++◌, refl, sym, ap, ◌∙◌, append_assoc, Option, take, drop}
 use Rattle.std.proofs.lemmas.List.{take-append-drop}
 use Rattle.std.proofs.KnownBytes.{Appends-trans}
 use Rattle.std.specs.Io.KnownBytes.{Appends}
-use Rattle.pallet_top.specs.Written.{IsPrefixOf, AppendsPart}
+use Rattle.pallet_top.specs.Written.{AppendsPart}
 
 -- a whole text, and then a part of the next
 pub part-after : (a b c : Option (List ℕ)) (xs ys : List ℕ) → Appends a b xs → AppendsPart b c ys → AppendsPart a c (xs ++ ys)

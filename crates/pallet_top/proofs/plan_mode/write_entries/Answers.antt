@@ -1,6 +1,5 @@
 use Rattle.std.proofs.Common.{◌≡◌, ◌≤◌, ◌∙◌, ℕ, ◌+◌, ◌∷◌, ◌++◌, [], List, take, length, ap, arith, rules, sym, subst}
 use Rattle.std.specs.Prelude.{IsErrOf}
-use Rattle.std.specs.Io.KnownBytes.{Appends}
 use Rattle.std.proofs.KnownBytes.{Appends-trans}
 use Rattle.std.proofs.lemmas.List.{length-append, take_more, length-take-le}
 use Rattle.order_reader.specs.declared.rows.Row.{Row}
@@ -8,7 +7,6 @@ use Rattle.pallet_top.specs.declared.entries.Entry.{Entry}
 use Rattle.pallet_top.specs.declared.plan_mode.WriteStop.TheVariants.{Fault}
 use Rattle.pallet_top.specs.Entries.{AreEntriesFrom, IsEntryOf}
 use Rattle.pallet_top.specs.ReportText.{entries_text, entry_text}
-use Rattle.pallet_top.specs.Written.{AppendsPart}
 use Rattle.pallet_top.proofs.EntryFacts.{entries-more, first-of, any-more, texts-more}
 use Rattle.pallet_top.proofs.Parts.{part-after}
 use Rattle.pallet_top.proofs.plan_mode.write_entries.Goals as goal

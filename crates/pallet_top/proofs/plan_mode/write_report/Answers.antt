@@ -1,7 +1,5 @@
-use Rattle.std.proofs.Common.{◌≡◌, ◌∙◌, ◌++◌, [], List, length, rules, sym, subst}
+use Rattle.std.proofs.Common.{[], length, rules}
 use Rattle.std.specs.Prelude.{IsErrOf}
-use Rattle.std.specs.Io.KnownBytes.{Appends}
-use Rattle.std.proofs.KnownBytes.{Appends-trans}
 use Rattle.pallet_top.specs.declared.plan_mode.WriteStop.TheVariants.{Fault}
 use Rattle.pallet_top.specs.ReportText.{head_text, entries_text, done_text}
 use Rattle.pallet_top.specs.Written.{AppendsPart}

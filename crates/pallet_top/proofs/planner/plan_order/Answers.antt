@@ -1,4 +1,4 @@
-use Rattle.std.proofs.Common.{arith, List, ℕ, sym, subst}
+use Rattle.std.proofs.Common.{arith, sym, subst}
 use Rattle.plan_geometry.specs.Layout.{IsLayout}
 use Rattle.plan_geometry.specs.declared.instances.Inst.{Inst}
 use Rattle.order_reader.specs.Orders.{OrderValue}
