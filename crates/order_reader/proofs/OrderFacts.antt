@@ -1,6 +1,6 @@
 -- What the tests say of an order that passes them.
-use Rattle.std.proofs.Common.{◌≡◌, ℕ, zero, suc, ◌+◌, ◌-◌, ◌*◌, ◌/◌, ◌<◌, ◌≤◌, ◌⊎◌, inl, inr, Bool, true, false, List, [], ◌∷◌, length, get_or, min, max, Option, Some, None, refl, sym, subst, ap, ◌∙◌, arith, All}
-use Rattle.std.specs.Prelude.{if◌then◌else◌, not, nat_le, ◌&&◌, ◌||◌, find, option_map}
+use Rattle.std.proofs.Common.{◌≡◌, ℕ, zero, suc, ◌+◌, ◌-◌, ◌*◌, ◌/◌, ◌<◌, ◌≤◌, ◌⊎◌, inl, inr, Bool, true, false, List, [], ◌∷◌, length, get_or, min, max, Option, Some, None, refl, subst, arith}
+use Rattle.std.specs.Prelude.{if◌then◌else◌, not, nat_le, ◌&&◌, find, option_map}
 use Rattle.std.specs.List.{list_all}
 use Rattle.std.proofs.lemmas.Bool.Decides.{nat_tests}
 use Rattle.order_reader.specs.declared.fields.Field.{Field}
@@ -9,7 +9,7 @@ use Rattle.order_reader.specs.declared.faults.RowFault.{RowFault}
 use Rattle.order_reader.specs.declared.faults.RowFault.TheVariants.{BadId, OutOfRange, DoesNotFit, TooManyCases}
 use Rattle.order_reader.specs.Columns.{place_of, all_columns}
 use Rattle.order_reader.specs.Orders.{OrderValue, order_with, number_in, pallet_x_of, pallet_y_of, case_x_of, case_y_of, long_of, short_of, gap_of}
-use Rattle.order_reader.specs.Faults.{first_of, sides_fault, numbers_fault, is_id, id_fault, least_in, greatest_in, greatest_gap_of, is_in_range, range_fault, fits, fit_fault, is_small, case_count_fault, order_fault, IsOrder}
+use Rattle.order_reader.specs.Faults.{first_of, numbers_fault, is_id, id_fault, least_in, greatest_in, greatest_gap_of, is_in_range, range_fault, fits, fit_fault, is_small, case_count_fault, order_fault, IsOrder}
 use Rattle.order_reader.specs.Instances.{AreInRange}
 use Rattle.order_reader.proofs.FindFacts.{find-none}
 

@@ -1,21 +1,19 @@
 -- The fields of a row, its header and its faults.
-use Rattle.std.proofs.Common.{◌≡◌, ℕ, zero, suc, ◌+◌, ◌≤◌, ◌<◌, List, [], ◌∷◌, ◌++◌, length, map, drop, get_or, Option, Some, None, refl, sym, ap, ◌∙◌, arith, add-one, drop-cons, true, false, Bool}
-use Rattle.std.specs.Prelude.{not, find, option_map, ◌==◌, ◌&&◌, codes, if◌then◌else◌}
+use Rattle.std.proofs.Common.{◌≡◌, ℕ, zero, suc, ◌+◌, ◌<◌, List, [], ◌∷◌, ◌++◌, length, map, drop, get_or, Some, None, refl, sym, ap, ◌∙◌, arith, add-one, drop-cons, true}
+use Rattle.std.specs.Prelude.{not, find, ◌&&◌, codes}
 use Rattle.std.specs.List.{enumerate_from}
 use Rattle.std.specs.Str.{bytes_eq}
 use Rattle.std.specs.Cmp.Lexicographic.{pointwise}
 use Rattle.std.proofs.lemmas.Bool.Decides.{nat_tests}
 use Rattle.csv.specs.Records.{field_at}
 use Rattle.order_reader.specs.declared.fields.Field.{Field}
-use Rattle.order_reader.specs.declared.faults.RowFault.{RowFault}
-use Rattle.order_reader.specs.declared.faults.RowFault.TheVariants.{FieldCount, BadId, BadNumber}
 use Rattle.std.proofs.lemmas.List.{map-append, length-map}
 use Rattle.std.proofs.lemmas.List.FromFn.{length-enumerate_from}
 use Rattle.order_reader.specs.Records.{Fields, records_of}
 use Rattle.order_reader.specs.Rows.{row_of, rows_of_records, rows_of}
 use Rattle.order_reader.specs.Columns.{column_name, header_over, columns_under, same_fields, all_columns}
 use Rattle.order_reader.specs.Orders.{order_with}
-use Rattle.order_reader.specs.Faults.{first_of, is_id, id_in, id_fault, has_number, number_fault, value_under, order_in, field_count_fault, numbers_fault, range_fault, fit_fault, case_count_fault, order_fault, row_fault, IsOrder}
+use Rattle.order_reader.specs.Faults.{first_of, is_id, id_in, id_fault, has_number, number_fault, value_under, order_in, field_count_fault, numbers_fault, range_fault, fit_fault, case_count_fault, order_fault, row_fault}
 use Rattle.order_reader.proofs.OrderFacts.{first_of-next, first_of-none}
 
 -- a field that is there

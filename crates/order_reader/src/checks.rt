@@ -17,7 +17,7 @@ pub(crate) const LONGEST_ID: usize = 40;
 /// The most cases of a layer, by the area bound.
 pub(crate) const MOST_CASES: u64 = 1000;
 
-/// The longest side of a pallet, with the gap.
+/// The longest side of a pallet with the gap, and of a case.
 const GREATEST_SIDE: u64 = 4000;
 
 /// The widest gap between cases.
@@ -102,7 +102,7 @@ fn greatest(greatest_gap: u64, field: Field) -> u64
     ensures { result ≡ greatest_in greatest_gap field }
 {
     match field {
-        Field::PalletX | Field::PalletY | Field::CaseX | Field::CaseY => 4000,
+        Field::PalletX | Field::PalletY | Field::CaseX | Field::CaseY => GREATEST_SIDE,
         Field::CaseZ | Field::MaxHeight => 10000,
         Field::Weight | Field::MaxWeight => 100000000,
         Field::Contact | Field::Cut => 100,
@@ -197,7 +197,7 @@ fn fault_of_sides(numbers: &[u64; 12]) -> Option<RowFault>
     None
 }
 
-// The tests of a row, given its id and its numbers.
+// The tests of a row, given its numbers.
 pub(crate) fn fault_of_row(
     columns: &[Field],
     fields: &ByteRecord,

@@ -99,7 +99,7 @@ fn is_header_over(fields: &ByteRecord, columns: &[Field]) -> bool
 
 // What each record is as a row.
 fn read_rows(alloc: Global, columns: &[Field], records: &[ByteRecord]) -> Result<Vec<Row>, Memory>
-    requires { length records.now ≤ 256 }
+    requires { length records.now ≤ MOST_ROWS }
     ensures { IfOk result (λ v. v.items ≡ rows_of_records columns.now (map fields_of records.now)) }
 {
     let mut rows = Vec::new(alloc);
@@ -110,6 +110,7 @@ fn read_rows(alloc: Global, columns: &[Field], records: &[ByteRecord]) -> Result
     Ok(rows)
 }
 
+// What a record is as the row of this number.
 #[tactic(auto, unfolding(crate::specs::Rows::row_of))]
 fn read_row(
     alloc: Global,

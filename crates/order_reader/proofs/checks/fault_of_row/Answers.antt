@@ -1,4 +1,4 @@
-use Rattle.std.proofs.Common.{◌≡◌, ◌∙◌, ◌+◌, sym, length, true, None, arith}
+use Rattle.std.proofs.Common.{◌≡◌, ◌∙◌, ◌+◌, sym, length, true, None}
 use Rattle.std.specs.Prelude.{find, not}
 use Rattle.csv.specs.Records.{fields_of}
 use Rattle.order_reader.specs.Faults.{is_id, id_in, has_number}

@@ -1,4 +1,4 @@
-use Rattle.std.proofs.Common.{[], ◌≤◌, ◌+◌, arith}
+use Rattle.std.proofs.Common.{[], arith}
 use Rattle.order_reader.specs.Orders.{order_with}
 use Rattle.order_reader.proofs.OrderFacts.{ranges-hold, sides-hold}
 use Rattle.order_reader.proofs.checks.fault_of_sides.Goals as goal

@@ -1,4 +1,4 @@
-use Rattle.std.proofs.Common.{◌≡◌, ◌∙◌, ◌≤◌, sym, None, rules}
+use Rattle.std.proofs.Common.{◌≡◌, ◌∙◌, sym, None}
 use Rattle.csv.specs.Records.{fields_of}
 use Rattle.order_reader.specs.Faults.{order_in, row_fault, IsOrder}
 use Rattle.order_reader.proofs.OrderFacts.{passes, number-limited}

@@ -1,9 +1,8 @@
-use Rattle.std.proofs.Common.{rules, refl, sym, ◌≡◌, ◌∙◌, ◌+◌, length, Some, true, false, ℕ, List, arith}
+use Rattle.std.proofs.Common.{rules, refl, sym, ◌≡◌, ◌∙◌, ◌+◌, length, Some, true, false, arith}
 use Rattle.std.specs.Prelude.{codes}
 use Rattle.std.specs.Str.{bytes_eq}
 use Rattle.csv.specs.Records.{fields_of, field_at}
 use Rattle.order_reader.specs.declared.fields.Field.TheVariants.{PalletX}
-use Rattle.order_reader.specs.Columns.{column_name}
 use Rattle.order_reader.specs.Faults.{id_in}
 use Rattle.order_reader.proofs.RowFacts.{field-there, header-start, header-more}
 use Rattle.order_reader.proofs.rows.is_header_over.Goals as goal

@@ -1,4 +1,4 @@
-use Rattle.std.proofs.Common.{◌≡◌, ◌∙◌, ◌+◌, ◌++◌, ◌∷◌, [], refl, sym, ap, arith, length, take, map, List, ℕ}
+use Rattle.std.proofs.Common.{◌≡◌, ◌∙◌, ◌+◌, ◌++◌, ◌∷◌, [], refl, sym, ap, arith, length, take, map, List}
 use Rattle.std.proofs.lemmas.List.{map-append, length-map, take_more, length-take}
 use Rattle.csv.specs.Records.{Row, fields_of}
 use Rattle.order_reader.specs.Records.{Fields}

@@ -1,8 +1,4 @@
-use Rattle.std.proofs.Common.{◌≡◌, ◌∙◌, ap, List, ℕ, Some}
-use Rattle.std.specs.Prelude.{find}
-use Rattle.std.specs.Str.{bytes_eq}
-use Rattle.order_reader.specs.declared.fields.Field.{Field}
-use Rattle.order_reader.specs.Columns.{column_name, all_columns}
+use Rattle.order_reader.specs.Columns.{all_columns}
 use Rattle.order_reader.proofs.FieldFacts.{found-named, own-named}
 use Rattle.order_reader.proofs.fields.Field.named.Goals as goal
 

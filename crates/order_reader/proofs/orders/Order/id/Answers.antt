@@ -1,8 +1,5 @@
-use Rattle.std.proofs.Common.{◌≡◌, ◌≤◌, length, true, sym, ap, List, ℕ, All}
-use Rattle.std.specs.Prelude.{nat_le, ◌&&◌}
-use Rattle.std.specs.List.{list_all}
 use Rattle.order_reader.specs.Orders.{order_with}
-use Rattle.order_reader.proofs.OrderFacts.{Passes, passes, HasId, id-holds, plain-each}
+use Rattle.order_reader.proofs.OrderFacts.{passes, id-holds, plain-each}
 use Rattle.order_reader.proofs.orders.Order.id.Goals as goal
 
 pub returns-clause-some : goal.returns-clause-some

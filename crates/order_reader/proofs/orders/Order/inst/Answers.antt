@@ -1,4 +1,4 @@
-use Rattle.std.proofs.Common.{rules, arith, ◌≡◌, ◌≤◌, ◌+◌}
+use Rattle.std.proofs.Common.{rules, ◌≤◌, ◌+◌}
 use Rattle.order_reader.specs.Instances.{IsGivenOf}
 use Rattle.order_reader.proofs.OrderFacts.{passes, sides-hold, long-limited}
 use Rattle.order_reader.proofs.InstFacts.{given-small, layouts-each, bounds-each, layers-are, bounds-are}

@@ -1,4 +1,4 @@
-use Rattle.std.proofs.Common.{◌≡◌, ◌∙◌, sym, true, rules}
+use Rattle.std.proofs.Common.{◌≡◌, ◌∙◌, sym, true}
 use Rattle.order_reader.specs.Faults.{is_id}
 use Rattle.order_reader.proofs.OrderFacts.{numbers-of_order}
 use Rattle.order_reader.proofs.orders.Order.new.Goals as goal

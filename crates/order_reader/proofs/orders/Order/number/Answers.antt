@@ -1,4 +1,4 @@
-use Rattle.std.proofs.Common.{◌≡◌, ◌≤◌, ℕ, sym, subst}
+use Rattle.std.proofs.Common.{◌≤◌, subst}
 use Rattle.std.specs.Prelude.{slice_index}
 use Rattle.order_reader.specs.Columns.{place_of}
 use Rattle.order_reader.specs.Orders.{OrderValue, order_with}

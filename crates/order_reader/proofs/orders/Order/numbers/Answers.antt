@@ -1,5 +1,3 @@
-use Rattle.std.proofs.Common.{◌≡◌, ◌≤◌, ◌<◌, ℕ, length, get_or, arith, sym}
-use Rattle.std.proofs.lemmas.List.{get_or_read}
 use Rattle.order_reader.specs.Orders.{order_with}
 use Rattle.order_reader.proofs.OrderFacts.{passes, number-limited}
 use Rattle.order_reader.proofs.orders.Order.numbers.Goals as goal

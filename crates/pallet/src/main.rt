@@ -1,0 +1,67 @@
+//! Plans layers of cases on a pallet: reads standard input, and writes standard output.
+#![tactic(auto)]
+
+use pallet_top::{Answer, Code, run};
+use plan_io::{StdSink, StdSource};
+use std::env;
+use std::io::ErrorKind;
+use std::process::ExitCode;
+
+fn main(rt: HostRuntime) -> ExitCode {
+    let answer = match words(&rt) {
+        Ok(words) => {
+            let mut source = StdSource::new(rt.stdin());
+            let mut sink = StdSink::new(rt.stdout());
+            run(&rt, rt.alloc(), &words, &mut source, &mut sink)
+        }
+        Err(code) => Answer { code, line: 0 },
+    };
+    match answer.code {
+        Code::Done => {}
+        Code::BadReport => {
+            let line = answer.line;
+            let _ = eprintln!(rt; "pallet: not a report, line {line}");
+        }
+        code => {
+            let line = line_of(code);
+            let _ = eprintln!(rt; "{line}");
+        }
+    }
+    ExitCode::from(answer.code as u8)
+}
+
+// The words after the program's name, or the code of a run that has none. A word that is no text is not accepted.
+fn words(rt: &HostRuntime) -> Result<Vec<String>, Code> {
+    let arguments = match env::args(rt) {
+        Ok(arguments) => arguments,
+        Err(error) => {
+            return Err(match error.kind() {
+                ErrorKind::OutOfMemory => Code::Memory,
+                _ => Code::Usage,
+            });
+        }
+    };
+    let mut words = Vec::new(rt.alloc());
+    for word in arguments.skip(1) {
+        if words.push(word).is_err() {
+            return Err(Code::Memory);
+        }
+    }
+    Ok(words)
+}
+
+// What is said on standard error.
+fn line_of(code: Code) -> &'static str {
+    match code {
+        Code::Done => "pallet: done",
+        Code::Findings => "pallet: some rows or entries were not accepted",
+        Code::Usage => "usage: pallet plan",
+        Code::TooLong => "pallet: input too long",
+        Code::NoHeader => "pallet: no header",
+        Code::TooManyRows => "pallet: too many rows",
+        Code::BadReport => "pallet: not a report",
+        Code::ReadFault => "pallet: reading failed",
+        Code::WriteFault => "pallet: writing failed",
+        Code::Memory => "pallet: out of memory",
+    }
+}

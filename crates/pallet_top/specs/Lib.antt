@@ -1,0 +1,5 @@
+pub mod Entries
+pub mod ReportText
+pub mod Written
+pub mod Words
+pub mod Runs
