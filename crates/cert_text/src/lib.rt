@@ -2,6 +2,7 @@
 #![tactic(auto)]
 
 mod forms;
+mod limits;
 mod lines;
 mod marks;
 mod puts;

@@ -4,12 +4,10 @@ ghost use Rattle.texts.specs.Gives.{GivesLine};
 ghost use Rattle.cert_text.specs.Text.{mark_byte as byte_of};
 ghost use Rattle.cert_text.specs.Words.{is_mark, mark_of as mark_at, are_marks as are_marks_in, tree_of};
 
+use crate::limits::MOST_MARKS;
 use std::alloc::{AllocError, Global};
 use texts::LineStop;
 use weightings::{Mark, Marks};
-
-/// The most marks of a tree.
-pub(crate) const MOST_MARKS: usize = 500_000;
 
 // The byte that stands for a mark.
 pub(crate) fn mark_byte(mark: Mark) -> u8

@@ -3,8 +3,8 @@ ghost use Rattle.std.specs.List.{list_all};
 ghost use Rattle.cert_text.specs.Ranges.{is_weighting as is_weighting_value, is_tree as is_tree_value, is_cut as is_cut_value, are_cuts as are_cuts_value, in_range, InRange};
 
 use crate::forms::{Form, has_tables, most_cuts};
-use crate::marks::MOST_MARKS;
-use crate::words::are_sides;
+use crate::limits::{MOST_MARKS, MOST_QUANTITY, MOST_SIDE};
+use crate::words::{are_sides, is_colour, is_comb};
 use weightings::{Cert, Mark, StripCut, WeightTable, Weighting};
 
 // Whether a table has a text in the form.
@@ -22,10 +22,8 @@ fn is_weighting(form: Form, weighting: &Weighting) -> bool
 {
     match *weighting {
         Weighting::Area => true,
-        Weighting::Colour { k, c } => 1 <= k && (k <= 4_000 && c < k),
-        Weighting::Comb { p, a, r, b } => {
-            1 <= p && (p <= 4_000 && (a < p && (1 <= r && (r <= 4_000 && b < r))))
-        }
+        Weighting::Colour { k, c } => is_colour(k, c),
+        Weighting::Comb { p, a, r, b } => is_comb(p, a, r, b),
         Weighting::Table(ref table) => is_table(form, table),
     }
 }
@@ -44,7 +42,7 @@ fn is_cut(cut: StripCut) -> bool
     match cut {
         StripCut::Area => true,
         StripCut::X { a, b, q } | StripCut::Y { a, b, q } => {
-            a <= 4_000 && (b <= 4_000 && q <= 9_999_999_999)
+            a <= MOST_SIDE && (b <= MOST_SIDE && q <= MOST_QUANTITY)
         }
     }
 }

@@ -1,4 +1,4 @@
-ghost use Rattle.std.specs.Prelude.{◌≡◌, Some, None};
+ghost use Rattle.std.specs.Prelude.{◌≡◌, ◌&&◌, nat_le, nat_lt, Some, None};
 ghost use Rattle.texts.specs.Gives.{GivesOption};
 ghost use Rattle.texts.specs.Lines.{words_left};
 ghost use Rattle.texts.specs.Words.{word_by};
@@ -6,8 +6,9 @@ ghost use Rattle.cert_text.specs.Ranges.{are_sides as are_sides_value};
 ghost use Rattle.cert_text.specs.Words.{is_weight_line as is_weight_line_value, kind_of, weight_line_of_kind, weight_line_of, cut_kind_of, cut_of_kind, cut_of, head_kind_of, head_of_kind, head_of};
 
 use crate::forms::{Form, has_tables, most_cuts};
+use crate::limits::{MOST_QUANTITY, MOST_SIDE};
 use texts::{is_end, next_word, number_word, skip_word, this_number_word};
-use weightings::StripCut;
+use weightings::{MOST_CELLS, StripCut};
 
 /// What the first line of a certificate says.
 #[derive(Clone, Copy, PartialEq, Eq, Debug)]
@@ -51,19 +52,30 @@ pub enum CutKind {
     Y,
 }
 
-const MOST_SIDE: u64 = 4_000;
+// The greatest side, as a number in a text.
+const MOST_NUMBER: u64 = MOST_SIDE as u64;
 
-const MOST_CELLS: u64 = 40_000;
+// Whether a colour has a text.
+pub(crate) fn is_colour(k: u32, c: u32) -> bool
+    ensures { result ≡ (nat_le 1 k && (nat_le k 4000 && nat_lt c k)) }
+{
+    1 <= k && (k <= MOST_SIDE && c < k)
+}
 
-const MOST_QUANTITY: u64 = 9_999_999_999;
+// Whether a comb has a text.
+pub(crate) fn is_comb(p: u32, a: u32, r: u32, b: u32) -> bool
+    ensures { result ≡ (nat_le 1 p && (nat_le p 4000 && (nat_lt a p && (nat_le 1 r && (nat_le r 4000 && nat_lt b r))))) }
+{
+    1 <= p && (p <= MOST_SIDE && (a < p && (1 <= r && (r <= MOST_SIDE && b < r))))
+}
 
 // Whether a table of these sides has a text.
 pub(crate) fn are_sides(x: u32, y: u32) -> bool
     ensures { result ≡ are_sides_value x y }
 {
     1 <= x
-        && (u64::from(x) <= MOST_SIDE
-            && (1 <= y && (u64::from(y) <= MOST_SIDE && u64::from(x) * u64::from(y) <= MOST_CELLS)))
+        && (x <= MOST_SIDE
+            && (1 <= y && (y <= MOST_SIDE && u64::from(x) * u64::from(y) <= MOST_CELLS)))
 }
 
 // Whether the first line of a weighting is within the form's ranges.
@@ -72,10 +84,8 @@ fn is_weight_line(form: Form, line: WeightLine) -> bool
 {
     match line {
         WeightLine::Area => true,
-        WeightLine::Colour { k, c } => 1 <= k && (k <= 4_000 && c < k),
-        WeightLine::Comb { p, a, r, b } => {
-            1 <= p && (p <= 4_000 && (a < p && (1 <= r && (r <= 4_000 && b < r))))
-        }
+        WeightLine::Colour { k, c } => is_colour(k, c),
+        WeightLine::Comb { p, a, r, b } => is_comb(p, a, r, b),
         WeightLine::Table { x, y } => has_tables(form) && are_sides(x, y),
     }
 }
@@ -102,8 +112,8 @@ fn kind_word(words: Option<&[u8]>) -> Option<(Kind, Option<&[u8]>)>
 fn colour_words(form: Form, words: Option<&[u8]>) -> Option<(WeightLine, Option<&[u8]>)>
     ensures { GivesOption (λ x. (x.0, words_left x.1)) result (weight_line_of_kind form Kind.Colour (words_left words.entry)) }
 {
-    let (k, rest) = number_word(words, MOST_SIDE)?;
-    let (c, rest) = number_word(rest, MOST_SIDE)?;
+    let (k, rest) = number_word(words, MOST_NUMBER)?;
+    let (c, rest) = number_word(rest, MOST_NUMBER)?;
     let line = WeightLine::Colour {
         k: k as u32,
         c: c as u32,
@@ -120,10 +130,10 @@ fn colour_words(form: Form, words: Option<&[u8]>) -> Option<(WeightLine, Option<
 fn comb_words(form: Form, words: Option<&[u8]>) -> Option<(WeightLine, Option<&[u8]>)>
     ensures { GivesOption (λ x. (x.0, words_left x.1)) result (weight_line_of_kind form Kind.Comb (words_left words.entry)) }
 {
-    let (p, rest) = number_word(words, MOST_SIDE)?;
-    let (a, rest) = number_word(rest, MOST_SIDE)?;
-    let (r, rest) = number_word(rest, MOST_SIDE)?;
-    let (b, rest) = number_word(rest, MOST_SIDE)?;
+    let (p, rest) = number_word(words, MOST_NUMBER)?;
+    let (a, rest) = number_word(rest, MOST_NUMBER)?;
+    let (r, rest) = number_word(rest, MOST_NUMBER)?;
+    let (b, rest) = number_word(rest, MOST_NUMBER)?;
     let line = WeightLine::Comb {
         p: p as u32,
         a: a as u32,
@@ -142,8 +152,8 @@ fn comb_words(form: Form, words: Option<&[u8]>) -> Option<(WeightLine, Option<&[
 fn table_words(form: Form, words: Option<&[u8]>) -> Option<(WeightLine, Option<&[u8]>)>
     ensures { GivesOption (λ x. (x.0, words_left x.1)) result (weight_line_of_kind form Kind.Table (words_left words.entry)) }
 {
-    let (x, rest) = number_word(words, MOST_SIDE)?;
-    let (y, rest) = number_word(rest, MOST_SIDE)?;
+    let (x, rest) = number_word(words, MOST_NUMBER)?;
+    let (y, rest) = number_word(rest, MOST_NUMBER)?;
     let line = WeightLine::Table {
         x: x as u32,
         y: y as u32,
@@ -200,8 +210,8 @@ fn cut_words(kind: CutKind, words: Option<&[u8]>) -> Option<(StripCut, Option<&[
     match kind {
         CutKind::Area => Some((StripCut::Area, words)),
         CutKind::X => {
-            let (a, rest) = number_word(words, MOST_SIDE)?;
-            let (b, rest) = number_word(rest, MOST_SIDE)?;
+            let (a, rest) = number_word(words, MOST_NUMBER)?;
+            let (b, rest) = number_word(rest, MOST_NUMBER)?;
             let (q, rest) = number_word(rest, MOST_QUANTITY)?;
             Some((
                 StripCut::X {
@@ -213,8 +223,8 @@ fn cut_words(kind: CutKind, words: Option<&[u8]>) -> Option<(StripCut, Option<&[
             ))
         }
         CutKind::Y => {
-            let (a, rest) = number_word(words, MOST_SIDE)?;
-            let (b, rest) = number_word(rest, MOST_SIDE)?;
+            let (a, rest) = number_word(words, MOST_NUMBER)?;
+            let (b, rest) = number_word(rest, MOST_NUMBER)?;
             let (q, rest) = number_word(rest, MOST_QUANTITY)?;
             Some((
                 StripCut::Y {
