@@ -376,3 +376,6 @@ pub due-solved : (i : Inst) (pat : Pattern) (xs ys : List ℕ) (tb : Bor Table) 
 due-solved i pat xs ys tb r c rx ry d m g k w =
     solved i pat xs ys tb r c d.filled d.r_in d.c_in d.a_in d.b_in d.a_small d.b_small rx ry
     (rasters-list i (slice_index xs r) rx.now d.x_cuts) (rasters-list i (slice_index ys c) ry.now d.y_cuts) m g k w
+
+pub uniform-small : (i : Inst) (a b : ℕ) → a ≤ 4000 → b ≤ 4000 → uniform i a b ≤ 16000000
+uniform-small i a b ha hb = value-small i Five a b (uniform i a b) (by_grid refl) ha hb

@@ -47,7 +47,8 @@ pub struct Job<'a> {
 pub fn uniform_of(inst: Inst, a: u32, b: u32) -> u32
     requires a_small { a ≤ 4000 }
     requires b_small { b ≤ 4000 }
-    ensures { result ≡ uniform inst a b }
+    ensures value { result ≡ uniform inst a b }
+    ensures small { result ≤ 16000000 }
 {
     grid_cases(inst, Way::Lying, a, b).max(grid_cases(inst, Way::Standing, a, b))
 }
