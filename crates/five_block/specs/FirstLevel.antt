@@ -103,8 +103,9 @@ abbrev pub first_root : Inst → Split → Node
 first_root I s = record {
   region = rectangle I.l_side I.w_side;
   block = block.Five s.x1 s.x2 s.y1 s.y2
-    (grid_node I s.x2 s.y1 ∷ grid_node I (I.l_side - s.x2) s.y2 ∷ grid_node I s.x1 (I.w_side - s.y1)
-      ∷ grid_node I (I.l_side - s.x1) (I.w_side - s.y2) ∷ grid_node I (s.x2 - s.x1) (s.y2 - s.y1) ∷ []) }
+      (grid_node I s.x2 s.y1 ∷ grid_node I (I.l_side - s.x2) s.y2 ∷ grid_node I s.x1 (I.w_side - s.y1)
+      ∷ grid_node I (I.l_side - s.x1) (I.w_side - s.y2) ∷ grid_node I (s.x2 - s.x1) (s.y2 - s.y1) ∷ []);
+}
 
 -- the tree of the first of the cuts that give the greatest number
 abbrev pub IsFirstLevel : Inst → Node → Type 0

@@ -90,7 +90,12 @@ fn fill(alloc: Global, inst: Inst, px: &Points, py: &Points) -> Result<Filling, 
 /// The tree of the greatest number of the recursive five-block pattern of the pallet, its sides rounded down
 /// to normal places (after Morabito and Morales 1998). `px` and `py` are the points of the two sides, which
 /// have at most 2,500 pairs of normal places, and at most 200 places each.
-pub fn five_closure(alloc: Global, inst: Inst, px: &Points, py: &Points) -> Result<BlockTree, Memory>
+pub fn five_closure(
+    alloc: Global,
+    inst: Inst,
+    px: &Points,
+    py: &Points,
+) -> Result<BlockTree, Memory>
     requires px { ArePointsOf Axis.X inst px.now }
     requires py { ArePointsOf Axis.Y inst py.now }
     requires size { IsFiveSize px.now.normal py.now.normal }

@@ -28,7 +28,15 @@ pub struct CutLists<'a> {
 }
 
 // The better of `best` and one cut, which comes later. `first` is what its two parts at y1 hold.
-fn try_cut(q: CutLists<'_>, x1: u32, x2: u32, y1: u32, y2: u32, first: u32, best: KnownCut) -> KnownCut
+fn try_cut(
+    q: CutLists<'_>,
+    x1: u32,
+    x2: u32,
+    y1: u32,
+    y2: u32,
+    first: u32,
+    best: KnownCut,
+) -> KnownCut
     requires sides { AreCutLists q }
     requires x1_has { HasPlace q.xs.now x1 }
     requires x2_has { HasPlace q.xs.now x2 }

@@ -1,4 +1,4 @@
-use Rattle.std.proofs.Common.{rules, ◌≡◌, ◌≤◌, arith}
+use Rattle.std.proofs.Common.{rules, ◌≡◌, arith}
 use Rattle.block_tree.specs.Trees.{uniform}
 use Rattle.block_tables.proofs.EntryLemmas.{uniform-small}
 use Rattle.block_tables.proofs.tables.uniform_of.Goals as goal

@@ -16,5 +16,6 @@ returns c =
     let i = c.args.inst in
     let u : AreCutLists (record { inst = i; xs = c.as_slice.result; ys = c.as_slice-2.result }) = record {
       on_x = subst (λ zs. ListsFirstCuts i i.l_side zs) (sym c.as_slice.ensures.value) c.in_ok-xs.ensures;
-      on_y = subst (λ zs. ListsFirstCuts i i.w_side zs) (sym c.as_slice-2.ensures.value) c.in_ok-ys.ensures } in
+      on_y = subst (λ zs. ListsFirstCuts i i.w_side zs) (sym c.as_slice-2.ensures.value) c.in_ok-ys.ensures;
+    } in
     best-is (record { inst = i; xs = c.as_slice.result; ys = c.as_slice-2.result }) c.scan_x1.result u c.scan_x1.ensures.known c.scan_x1.ensures.covers

@@ -26,7 +26,7 @@ returns-clause-first c =
     let t = root-tree i s k.x_order k.x2.0 k.y_order k.y2.0 in
     let d : c.in-Some.tree.root ≡ first_root i s = c.in-Some.ensures.root ∙ c.in_ok-root.ensures in
     let e : held_count i c.in-Some.tree.root.region c.in-Some.tree.root.block ≡ c.in_ok-best.best.value
-      = ap (λ (n : Node). held_count i n.region n.block) d ∙ (t.1 ∙ sym f.value) in
+    = ap (λ (n : Node). held_count i n.region n.block) d ∙ (t.1 ∙ sym f.value) in
     (s, subst (λ m. IsFirstBest i s m) (sym e) f, d)
 
 pub returns-clause-greatest : goal.returns-clause-greatest
@@ -38,6 +38,6 @@ returns-clause-greatest c =
     let t = root-tree i s k.x_order k.x2.0 k.y_order k.y2.0 in
     let d : c.in-Some.tree.root ≡ first_root i s = c.in-Some.ensures.root ∙ c.in_ok-root.ensures in
     let e : held_count c.in-Some.tree.inst c.in-Some.tree.root.region c.in-Some.tree.root.block ≡ c.in_ok-best.best.value
-      = ap (λ (z : Inst). held_count z c.in-Some.tree.root.region c.in-Some.tree.root.block) c.in-Some.ensures.inst
-        ∙ (ap (λ (n : Node). held_count i n.region n.block) d ∙ (t.1 ∙ sym f.value)) in
+    = ap (λ (z : Inst). held_count z c.in-Some.tree.root.region c.in-Some.tree.root.block) c.in-Some.ensures.inst
+    ∙ (ap (λ (n : Node). held_count i n.region n.block) d ∙ (t.1 ∙ sym f.value)) in
     subst (λ m. Greatest (IsFirstNumber i) m) (sym e) (greatest-first i s c.in_ok-best.best.value f)

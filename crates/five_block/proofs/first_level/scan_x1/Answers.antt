@@ -8,10 +8,11 @@ loop-i-preserved c =
     let q = c.args.q in
     let k = c.loop-i.i in
     let old = c.loop-i.invariant in
-    let new = c.scan_x2-best.ensures in
-    (new.known,
+    let new = c.scan_x2-best.ensures in (
+      new.known,
       below_more _ k (wider_x1 q k _ _ new.improves old.1) new.covers,
-      λ n h l. omega (arith, new.later, c.requires.sides.on_x.rise k n (omega arith) l))
+      λ n h l. omega (arith, new.later, c.requires.sides.on_x.rise k n (omega arith) l),
+    )
 
 pub returns-clause-covers : goal.returns-clause-covers
 returns-clause-covers c = λ k h. c.loop-i.invariant.1 k (omega arith)

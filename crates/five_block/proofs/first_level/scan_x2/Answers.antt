@@ -10,19 +10,27 @@ loop-m-preserved c =
     let old = c.loop-m.invariant in
     let new = c.scan_y1-best.ensures in
     let up = c.requires.sides.on_x.up k c.loop-m-test.true in
-    let s = c.args.q.inst.sides in
-    (new.known, improves-more _ _ _ old.1 new.improves,
-      below_more _ k (wider_x2 q (slice_index q.xs.now c.args.i) k _ _ new.improves old.2) (λ h. new.covers), omega arith,
-      λ n h l. omega (arith, new.later, c.requires.sides.on_x.rise k n (omega arith) l), omega (arith, new.later, up))
+    let s = c.args.q.inst.sides in (
+      new.known,
+      improves-more _ _ _ old.1 new.improves,
+      below_more _ k (wider_x2 q (slice_index q.xs.now c.args.i) k _ _ new.improves old.2) (λ h. new.covers),
+      omega arith,
+      λ n h l. omega (arith, new.later, c.requires.sides.on_x.rise k n (omega arith) l),
+      omega (arith, new.later, up),
+    )
 
 pub returns-clause-covers : goal.returns-clause-covers
 returns-clause-covers c = λ k h. c.loop-m.invariant.2 k (omega arith)
 
 pub loop-m-init : goal.loop-m-init
-loop-m-init c =
-    (c.requires.known, inr (refl, refl),
-      λ k h g. absurd (omega (arith, c.requires.sides.on_x.rise k c.args.i h c.requires.i_in)), le_refl _,
-      λ n h l. omega (arith, c.requires.later), omega (arith, c.requires.later))
+loop-m-init c = (
+  c.requires.known,
+  inr (refl, refl),
+  λ k h g. absurd (omega (arith, c.requires.sides.on_x.rise k c.args.i h c.requires.i_in)),
+  le_refl _,
+  λ n h l. omega (arith, c.requires.later),
+  omega (arith, c.requires.later),
+)
 
 pub scan_y1-best-requires-clause-x_order : goal.scan_y1-best-requires-clause-x_order
 scan_y1-best-requires-clause-x_order c =

@@ -10,19 +10,27 @@ loop-k-preserved c =
     let old = c.loop-k.invariant in
     let new = c.try_cut-best.ensures in
     let up = c.requires.sides.on_y.up k c.loop-k-test.true in
-    let s = c.args.q.inst.sides in
-    (new.known, improves-more _ _ _ old.1 new.improves,
-      below_more _ k (wider_y2 q c.args.x1 c.args.x2 (slice_index q.ys.now c.args.j) k _ _ new.improves old.2) (λ h. new.beats), omega arith,
-      λ n h l. omega (arith, new.later, c.requires.sides.on_y.rise k n (omega arith) l), omega (arith, new.later, up))
+    let s = c.args.q.inst.sides in (
+      new.known,
+      improves-more _ _ _ old.1 new.improves,
+      below_more _ k (wider_y2 q c.args.x1 c.args.x2 (slice_index q.ys.now c.args.j) k _ _ new.improves old.2) (λ h. new.beats),
+      omega arith,
+      λ n h l. omega (arith, new.later, c.requires.sides.on_y.rise k n (omega arith) l),
+      omega (arith, new.later, up),
+    )
 
 pub returns-clause-covers : goal.returns-clause-covers
 returns-clause-covers c = λ k h. c.loop-k.invariant.2 k (omega arith)
 
 pub loop-k-init : goal.loop-k-init
-loop-k-init c =
-    (c.requires.known, inr (refl, refl),
-      λ k h g. absurd (omega (arith, c.requires.sides.on_y.rise k c.args.j h c.requires.j_in)), le_refl _,
-      λ n h l. omega (arith, c.requires.later), omega (arith, c.requires.later))
+loop-k-init c = (
+  c.requires.known,
+  inr (refl, refl),
+  λ k h g. absurd (omega (arith, c.requires.sides.on_y.rise k c.args.j h c.requires.j_in)),
+  le_refl _,
+  λ n h l. omega (arith, c.requires.later),
+  omega (arith, c.requires.later),
+)
 
 pub try_cut-best-requires-clause-y_order : goal.try_cut-best-requires-clause-y_order
 try_cut-best-requires-clause-y_order c =

@@ -9,12 +9,16 @@ loop-i-preserved c =
     let i = c.loop-i.i in
     let old = c.loop-i.invariant in
     elim c.if-best-bound.branch [
-      then-best-bound w ↦
-        let new = w.scan_x2-best.ensures in
-        rw (w.best-is, w.second-is) (omega (arith, new.above),
-          elim old.1 [ inl a ↦ inl (omega (arith, new.above)) | inr a ↦ elim new.covers [ inl b ↦ inl b | inr b ↦ inr (below_more _ i (wider_x1 q i _ _ new.above a) b) ] ],
-          new.reached, new.room)
-      | else-best-bound w ↦ rw (w.best-is, w.second-is) (old.0, inl (omega arith), old.2, old.3) ]
+      | then-best-bound w ↦
+          let new = w.scan_x2-best.ensures in
+          rw (w.best-is, w.second-is) (
+            omega (arith, new.above),
+            elim old.1 [ inl a ↦ inl (omega (arith, new.above)) | inr a ↦ elim new.covers [ inl b ↦ inl b | inr b ↦ inr (below_more _ i (wider_x1 q i _ _ new.above a) b) ] ],
+            new.reached,
+            new.room,
+          )
+      | else-best-bound w ↦ rw (w.best-is, w.second-is) (old.0, inl (omega arith), old.2, old.3)
+    ]
 
 pub returns-clause-covers : goal.returns-clause-covers
 returns-clause-covers c =
