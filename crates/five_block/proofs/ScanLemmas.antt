@@ -1,5 +1,5 @@
 -- Cuts that were tried stay covered by a greater number.
-use Rattle.std.proofs.Common.{◌≡◌, ℕ, ◌+◌, ◌≤◌, ◌<◌, arith, length, slice_index}
+use Rattle.std.proofs.Common.{ℕ, ◌≤◌, arith, length, slice_index}
 use Rattle.block_tables.specs.declared.patterns.Pattern.TheVariants.{Five}
 use Rattle.block_tables.specs.Tables.{CoversAll}
 use Rattle.block_tables.specs.declared.tables.Job.{Job}

@@ -1,5 +1,5 @@
 -- What the scan of one block has covered.
-use Rattle.std.specs.Prelude.{ℕ, ◌+◌, ◌≤◌, ◌<◌, ◌≡◌, List, length, slice_index}
+use Rattle.std.specs.Prelude.{ℕ, ◌≤◌, ◌<◌, ◌≡◌, List, length, slice_index}
 use Rattle.block_tables.specs.declared.patterns.Pattern.TheVariants.{Five}
 use Rattle.block_tables.specs.declared.tables.Best.{Best}
 use Rattle.block_tables.specs.declared.tables.Job.{Job}

@@ -1,6 +1,6 @@
 -- What the scan of one block has covered. For fixed x cuts the sum of a cut is a first term, of its first y cut,
 -- and a second term, of its second.
-use Rattle.std.specs.Prelude.{ℕ, ◌+◌, ◌≤◌, ◌<◌, ◌≡◌, List, length, slice_index}
+use Rattle.std.specs.Prelude.{ℕ, ◌+◌, ◌≤◌, ◌<◌, ◌≡◌, length, slice_index}
 use Rattle.block_tables.specs.declared.patterns.Pattern.TheVariants.{Four}
 use Rattle.block_tables.specs.declared.tables.Best.{Best}
 use Rattle.block_tables.specs.declared.tables.Job.{Job}

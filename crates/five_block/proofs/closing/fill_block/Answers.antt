@@ -1,4 +1,4 @@
-use Rattle.std.proofs.Common.{◌≡◌, List, ℕ, slice_index, ap, sym, subst}
+use Rattle.std.proofs.Common.{slice_index}
 use Rattle.raster_points.specs.Places.{Lists}
 use Rattle.block_tables.specs.declared.patterns.Pattern.TheVariants.{Five}
 use Rattle.block_tables.specs.Numbers.{IsRasterOf}

@@ -1,4 +1,3 @@
-use Rattle.std.proofs.Common.{rules, arith, ◌≡◌, ◌+◌, ap}
 use Rattle.five_block.proofs.OrderLemmas.{cuts-more, cuts-same}
 use Rattle.five_block.proofs.first_cuts.first_cuts.Goals as goal
 use Rattle.five_block.proofs.first_cuts.first_cuts.Goals.{then-is_first_cut+in_ok-push, else-is_first_cut}

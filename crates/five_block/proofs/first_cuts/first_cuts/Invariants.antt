@@ -1,4 +1,4 @@
-use Rattle.std.proofs.Common.{◌≤◌, ◌<◌, ℕ, length, slice_index}
+use Rattle.std.proofs.Common.{◌<◌, ℕ, length, slice_index}
 use Rattle.block_tables.specs.Tables.{HasPlace, IsRising}
 use Rattle.five_block.specs.FirstLevel.{IsFirstCut}
 use Rattle.five_block.proofs.first_cuts.first_cuts.Given as goal

@@ -1,4 +1,4 @@
-use Rattle.std.proofs.Common.{rules, arith, ◌≡◌, ◌*◌, ◌+◌, ◌%◌, ◌/◌, ℕ, ap, sym, ◌∙◌, IsTrue}
+use Rattle.std.proofs.Common.{arith, ◌≡◌, ◌%◌, ◌/◌, ap, ◌∙◌}
 use Rattle.std.proofs.lemmas.Bool.{eqb-true, eq-eqb}
 use Rattle.std.proofs.Math.Nat.{mul-mod_left, div-add-mod'}
 use Rattle.five_block.proofs.first_cuts.is_multiple.Goals as goal

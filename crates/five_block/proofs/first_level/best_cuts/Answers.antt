@@ -1,4 +1,4 @@
-use Rattle.std.proofs.Common.{rules, arith, ◌≡◌, ◌≤◌, ◌+◌, ◌*◌, ◌∙◌, List, ℕ, sym, subst, inl}
+use Rattle.std.proofs.Common.{arith, ◌∙◌, sym, subst}
 use Rattle.block_tables.specs.Tables.{HasPlace}
 use Rattle.five_block.specs.FirstLevel.{ListsFirstCuts, AreCutLists}
 use Rattle.five_block.proofs.OrderLemmas.{best-is, zero-cut, start-sum}

@@ -1,6 +1,6 @@
-use Rattle.std.proofs.Common.{rules, arith, below_more, ◌≡◌, ◌≤◌, ◌<◌, ◌+◌, length, slice_index, ℕ}
+use Rattle.std.proofs.Common.{arith, below_more}
 use Rattle.std.proofs.Math.Nat.{le_refl}
-use Rattle.five_block.proofs.OrderLemmas.{wider_x1, improves-more}
+use Rattle.five_block.proofs.OrderLemmas.{wider_x1}
 use Rattle.five_block.proofs.first_level.scan_x1.Goals as goal
 
 pub loop-i-preserved : goal.loop-i-preserved

@@ -1,4 +1,4 @@
-use Rattle.std.proofs.Common.{rules, arith, below_more, ◌≡◌, ◌≤◌, ◌<◌, ◌+◌, inr, refl, length, slice_index, ℕ}
+use Rattle.std.proofs.Common.{arith, below_more, inr, refl, slice_index}
 use Rattle.std.proofs.Math.Nat.{le_refl}
 use Rattle.five_block.proofs.OrderLemmas.{wider_x2, improves-more, weakly}
 use Rattle.five_block.proofs.first_level.scan_x2.Goals as goal

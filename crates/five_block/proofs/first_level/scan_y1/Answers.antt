@@ -1,4 +1,4 @@
-use Rattle.std.proofs.Common.{rules, arith, below_more, ◌≡◌, ◌≤◌, ◌<◌, ◌+◌, length, slice_index, ℕ}
+use Rattle.std.proofs.Common.{arith, below_more}
 use Rattle.std.proofs.Math.Nat.{le_refl}
 use Rattle.five_block.proofs.OrderLemmas.{wider_y1, improves-more}
 use Rattle.five_block.proofs.first_level.scan_y1.Goals as goal

@@ -1,4 +1,4 @@
-use Rattle.std.proofs.Common.{rules, arith, below_more, ◌≡◌, ◌⊎◌, ◌≤◌, ◌+◌, length, inl, inr, slice_index, ℕ, ◌<◌}
+use Rattle.std.proofs.Common.{arith, below_more, inl, inr}
 use Rattle.five_block.proofs.ScanLemmas.{wider_x1}
 use Rattle.five_block.proofs.scanning.scan_x1.Goals as goal
 use Rattle.five_block.proofs.scanning.scan_x1.Goals.{then-best-bound, else-best-bound}

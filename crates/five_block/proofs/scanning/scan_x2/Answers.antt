@@ -1,4 +1,4 @@
-use Rattle.std.proofs.Common.{rules, arith, below_more, ◌≡◌, ◌⊎◌, ◌≤◌, ◌+◌, length, inl, inr, slice_index}
+use Rattle.std.proofs.Common.{arith, below_more, inl, inr, slice_index}
 use Rattle.five_block.proofs.ScanLemmas.{wider_x2}
 use Rattle.five_block.proofs.scanning.scan_x2.Goals as goal
 use Rattle.five_block.proofs.scanning.scan_x2.Goals.{then-best-bound, else-best-bound}

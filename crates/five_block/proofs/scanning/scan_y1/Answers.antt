@@ -1,4 +1,4 @@
-use Rattle.std.proofs.Common.{rules, arith, below_more}
+use Rattle.std.proofs.Common.{arith, below_more}
 use Rattle.five_block.proofs.ScanLemmas.{wider_y1}
 use Rattle.five_block.proofs.scanning.scan_y1.Goals as goal
 

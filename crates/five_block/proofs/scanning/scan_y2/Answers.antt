@@ -1,4 +1,4 @@
-use Rattle.std.proofs.Common.{rules, arith, ◌≡◌, ◌+◌, ◌≤◌, ◌<◌, length, slice_index, ℕ, below_more}
+use Rattle.std.proofs.Common.{arith, slice_index, below_more}
 use Rattle.five_block.proofs.ScanLemmas.{wider_y2}
 use Rattle.five_block.proofs.scanning.scan_y2.Goals as goal
 

@@ -1,4 +1,4 @@
-use Rattle.std.proofs.Common.{arith, ◌≡◌, ◌≤◌, inl, inr, slice_index, length}
+use Rattle.std.proofs.Common.{arith, inl, inr, slice_index}
 use Rattle.block_tables.specs.declared.patterns.Pattern.TheVariants.{Five}
 use Rattle.block_tables.proofs.EntryLemmas.{job, due-job, due-solved}
 use Rattle.five_block.proofs.ScanLemmas.{covers-all}

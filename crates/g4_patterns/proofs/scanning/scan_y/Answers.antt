@@ -1,5 +1,5 @@
-use Rattle.std.proofs.Common.{rules, arith, ◌≡◌, ◌≤◌, ◌<◌, ◌+◌, length, slice_index}
-use Rattle.g4_patterns.specs.Scan.{first_at, second_at, IsTop}
+use Rattle.std.proofs.Common.{arith, ◌≡◌, ◌+◌}
+use Rattle.g4_patterns.specs.Scan.{first_at, second_at}
 use Rattle.g4_patterns.proofs.TopLemmas.{top-more, covers-more}
 use Rattle.g4_patterns.proofs.scanning.scan_y.Goals as goal
 
