@@ -1,0 +1,5 @@
+pub mod BoundLemmas
+pub mod EntryLemmas
+pub mod StepLemmas
+pub mod KeepLemmas
+pub mod BuildLemmas

@@ -1,0 +1,3 @@
+pub mod ScanLemmas
+pub mod OrderLemmas
+pub mod RootLemmas
