@@ -1,4 +1,5 @@
 pub mod Counted
+pub mod ReadSoFar
 pub mod FindFacts
 pub mod OrderFacts
 pub mod RowFacts

@@ -1,4 +1,5 @@
 pub mod Records
+pub mod Refusals
 pub mod Columns
 pub mod Orders
 pub mod Faults

@@ -2,8 +2,9 @@
 ghost use Rattle.std.specs.Prelude.{◌≡◌, IfOk, map};
 ghost use Rattle.csv.specs.Records.{fields_of};
 ghost use Rattle.order_reader.specs.Records.{records_of};
+ghost use Rattle.order_reader.specs.Refusals.{IsOfMemory};
 
-use csv::{ByteRecord, ReaderBuilder};
+use csv::{ByteRecord, ErrorKind, ReaderBuilder};
 use plan_memory::Memory;
 use std::alloc::Global;
 
@@ -17,10 +18,20 @@ pub(crate) fn read_records(alloc: Global, bytes: &[u8]) -> Result<Vec<ByteRecord
         .from_reader(alloc, bytes);
     let mut records = Vec::new(alloc);
     for record in reader.into_byte_records() {
-        let Ok(record) = record else {
-            return Err(Memory);
-        };
-        records.push(record)?;
+        match record {
+            Ok(record) => records.push(record)?,
+            Err(error) => return Err(refused(error.kind())),
+        }
     }
     Ok(records)
+}
+
+// A reader of bytes that takes records of any length is refused memory, and nothing else.
+fn refused(kind: &ErrorKind) -> Memory
+    requires { IsOfMemory kind.now }
+{
+    match kind {
+        ErrorKind::Io(_) | ErrorKind::OutOfMemory => Memory,
+        _ => unreachable!(),
+    }
 }
