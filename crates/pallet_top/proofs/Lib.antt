@@ -1,3 +1,2 @@
 pub mod EntryFacts
 pub mod Parts
-pub mod Grids

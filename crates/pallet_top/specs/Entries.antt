@@ -2,7 +2,7 @@
 use Rattle.std.specs.Prelude.{ℕ, ◌+◌, ◌≡◌, ◌↔◌, Bool, true, false, ⊤, List, [], ◌∷◌, length, take}
 use Rattle.std.specs.List.{list_any}
 use Rattle.plan_geometry.specs.Layout.{IsInOrder, area_bound_of}
-use Rattle.plan_geometry.specs.Grid.{IsGrid, uniform_way}
+use Rattle.layer_planner.specs.Patterns.{HoldsPatterns}
 use Rattle.order_reader.specs.Instances.{IsGivenOf, IsLayerFor, IsBoundFor}
 use Rattle.order_reader.specs.declared.rows.Row.{Row}
 use Rattle.order_reader.specs.declared.rows.Row.TheVariants as row
@@ -11,15 +11,15 @@ use Rattle.pallet_top.specs.declared.entries.Plan.{Plan}
 use Rattle.pallet_top.specs.declared.entries.Entry.{Entry}
 use Rattle.pallet_top.specs.declared.entries.Entry.TheVariants.{Planned, Refused}
 
--- A plan is sound for its own order: its layer is the better grid of the instance that is planned, is inside the order's
--- own pallet and keeps the gap, and stands in the order of y, then x; no layer of the order has more cases than the bound;
--- and `optimal` stands exactly where count and bound are equal.
+-- A plan is sound for its own order: its layer is inside the order's own pallet and keeps the gap, and stands in the order
+-- of y, then x; its count is at least each number that the patterns of blocks reach on the instance that is planned; no
+-- layer of the order has more cases than the bound; and `optimal` stands exactly where count and bound are equal.
 pub record IsSound (p : Plan) : Type 0 where
   pub reduced : IsGivenOf p.order p.reduced
-  pub grid : IsGrid p.reduced (uniform_way p.reduced) p.layer.spots
   pub layer : IsLayerFor p.order p.layer.spots
   pub in_order : IsInOrder p.layer.spots
   pub count : length p.layer.spots ≡ p.count
+  pub patterns : HoldsPatterns p.reduced p.count
   pub area : p.bound ≡ area_bound_of p.reduced
   pub bounded : IsBoundFor p.order p.bound
   pub status : (p.status ≡ Optimal) ↔ (p.count ≡ p.bound)

@@ -59,8 +59,8 @@ mod tests {
         let rows = [
             (
                 "A,5,5,3,2,1,10,2,1000,0,0,100,0\n",
-                "order 5 5 3 2 1 10 2 1000 0 0 100 0\nreduced 5 5 3 2\ncount 2\nbound 4\nstatus open\n",
-                "0 0 L\n0 2 L\n",
+                "order 5 5 3 2 1 10 2 1000 0 0 100 0\nreduced 5 5 3 2\ncount 4\nbound 4\nstatus optimal\n",
+                "0 0 L\n3 0 S\n0 2 S\n2 3 L\n",
             ),
             (
                 "A,5,5,2,2,1,10,2,1000,0,0,100,1\n",
@@ -81,6 +81,21 @@ mod tests {
             assert_eq!(rt; code, Code::Done);
             assert_eq!(rt; text.as_slice(), wanted.as_bytes());
         }
+        Ok(())
+    }
+
+    // 19 times 12 cells hold 16 cases of 7 times 2.
+    #[test]
+    fn below_the_bound(rt: HostRuntime) -> Result<(), Fail> {
+        let alloc = rt.alloc();
+        let row = "A,19,12,7,2,1,10,2,1000,0,0,100,0\n";
+        let (code, text) = plan(&rt, alloc, file_of(alloc, row, 1)?)?;
+        assert_eq!(rt; code, Code::Done);
+        assert!(rt;
+            text.starts_with(
+                b"pallet-report 0\nentry 1\nid A\norder 19 12 7 2 1 10 2 1000 0 0 100 0\nreduced 19 12 7 2\ncount 14\nbound 16\nstatus open\n"
+            )
+        );
         Ok(())
     }
 

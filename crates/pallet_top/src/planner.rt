@@ -3,8 +3,9 @@ ghost use Rattle.std.specs.Prelude.{◌≡◌, ◌↔◌, IfOk};
 ghost use Rattle.pallet_top.specs.Entries.{IsSound, IsEntryOf};
 
 use crate::entries::{Entry, Plan, Status};
+use layer_planner::plan_layer;
 use order_reader::{Order, Row};
-use plan_geometry::{area_bound, uniform};
+use plan_geometry::area_bound;
 use plan_memory::Memory;
 use std::alloc::Global;
 
@@ -24,7 +25,7 @@ pub fn plan_row(alloc: Global, number: u32, row: &Row) -> Result<Entry, Memory>
     }
 }
 
-/// The plan of an order: the better grid, and the area bound.
+/// The plan of an order: a layer by patterns of blocks, and the area bound.
 pub fn plan_order(alloc: Global, order: &Order, number: u32) -> Result<Plan, Memory>
     ensures number { IfOk result (λ p. p.number ≡ number) }
     ensures order { IfOk result (λ p. p.order ≡ order.now) }
@@ -32,7 +33,7 @@ pub fn plan_order(alloc: Global, order: &Order, number: u32) -> Result<Plan, Mem
 {
     let inst = order.inst();
     let bound = area_bound(inst);
-    let layer = uniform(alloc, inst)?;
+    let layer = plan_layer(alloc, inst)?;
     let count = layer.count();
     let order = order.copied(alloc)?;
     Ok(Plan {
