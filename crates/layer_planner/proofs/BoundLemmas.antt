@@ -1,5 +1,5 @@
 -- No number of these patterns is above what the pallet's cells allow.
-use Rattle.std.proofs.Common.{◌≡◌, ℕ, ◌*◌, ◌/◌, ◌≤◌, ◌<◌, length, arith}
+use Rattle.std.proofs.Common.{◌≡◌, ℕ, ◌*◌, ◌/◌, ◌≤◌, ◌<◌, arith}
 use Rattle.std.proofs.lemmas.Nat.{le-div}
 use Rattle.std.proofs.Math.Nat.{div-mul-le_self, le_trans, mul-le-mul, mul-pos, mul_comm}
 use Rattle.plan_geometry.specs.declared.spots.Way.TheVariants.{Lying, Standing}
@@ -12,7 +12,7 @@ use Rattle.block_tables.specs.declared.patterns.Pattern.{Pattern}
 use Rattle.block_tables.specs.Numbers.{RoundsTo, IsNumber, IsGreatestOf}
 use Rattle.block_tables.proofs.BoundLemmas.{area, down-le}
 use Rattle.block_tables.proofs.EntryLemmas.{down-one}
-use Rattle.five_block.specs.FirstLevel.{IsFirstNumber, first_root, first_sum}
+use Rattle.five_block.specs.FirstLevel.{IsFirstNumber, first_root}
 use Rattle.five_block.proofs.RootLemmas.{root-tree}
 
 cells : (I : Inst) → 0 < I.long * I.short

@@ -1,5 +1,5 @@
 -- What is known of the layer that a step answers, where it answers one.
-use Rattle.std.proofs.Common.{◌≡◌, ℕ, ◌≤◌, Bool, true, false, length, max, subst, arith, Result, Ok, Err, IfOk}
+use Rattle.std.proofs.Common.{◌≡◌, ℕ, ◌≤◌, true, false, length, max, subst, arith, Result, Ok, Err, IfOk}
 use Rattle.plan_geometry.specs.declared.spots.Way.TheVariants.{Lying, Standing}
 use Rattle.plan_geometry.specs.declared.instances.Inst.{Inst}
 use Rattle.plan_geometry.specs.Grid.{grid_count}

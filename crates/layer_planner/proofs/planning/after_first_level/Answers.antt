@@ -1,4 +1,4 @@
-use Rattle.std.proofs.Common.{◌≡◌, ◌≤◌, ◌∙◌, ℕ, length, max, arith}
+use Rattle.std.proofs.Common.{◌≡◌, ◌≤◌, ◌∙◌, length, max, arith}
 use Rattle.std.proofs.lemmas.Result.{IfOk-weaker}
 use Rattle.block_tree.specs.Trees.{held_count}
 use Rattle.layer_planner.specs.Patterns.{ReachesFirst}
