@@ -1,0 +1,15 @@
+pub mod NextPoint
+pub mod NextTable
+pub mod Heights
+pub mod BlockSums
+pub mod Lists
+pub mod Refuting
+pub mod HeightSteps
+pub mod RunSteps
+pub mod Running
+pub mod Paths
+pub mod MarkSteps
+pub mod Placed
+pub mod Whole
+pub mod TreeMarks
+pub mod WalkLength

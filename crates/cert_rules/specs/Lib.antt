@@ -1,0 +1,13 @@
+pub mod Next
+pub mod Corner
+pub mod Refute
+pub mod Tree
+pub mod Walk
+pub mod Path
+pub mod Laws
+pub mod Waiting
+pub mod Reading
+pub mod Runs
+pub mod Lift
+pub mod Tables
+pub mod Frames
