@@ -1,8 +1,8 @@
 -- The weights of blocks, by their columns.
-use Rattle.std.proofs.Common.{◌≡◌, ℕ, zero, suc, ◌+◌, ◌*◌, ◌%◌, ◌<◌, arith, subst, sym, refl, ap, ◌∙◌}
+use Rattle.std.proofs.Common.{◌≡◌, ℕ, suc, ◌+◌, ◌%◌, arith, subst, sym, ap, ◌∙◌}
 use Rattle.std.specs.Prelude.{◌==◌, nat_le, if◌then◌else◌, replicate, slice_index}
 use Rattle.std.proofs.lemmas.Bool.Decides.{nat_tests}
-use Rattle.plan_geometry.specs.Weight.{sum_below, block_weight, total_weight}
+use Rattle.plan_geometry.specs.Weight.{sum_below, total_weight}
 use Rattle.plan_geometry.specs.declared.instances.Inst.{Inst}
 use Rattle.plan_geometry.proofs.Counting.{sum_below-same}
 use Rattle.weightings.specs.Line.{one_if, count_from}

@@ -12,4 +12,3 @@ pub mod MarkSteps
 pub mod Placed
 pub mod Whole
 pub mod TreeMarks
-pub mod WalkLength

@@ -169,10 +169,11 @@ pub refutation :
 refutation p i w n given marks b path ei ew em h =
     subst (λ (x : Inst). IsTrue b ↔ IsRefutation x (weight_of w) n marks) ei
     (subst (λ (x : Weighting). IsTrue b ↔ IsRefutation p.inst (weight_of x) n marks) ew
-    (subst (λ (ms : List Mark). IsTrue b ↔ IsRefutation p.inst (weight_of p.weighting) n ms) em
-    ((λ t. record { least = p.least; is_least = path.is_least; refutes = h.0 t }),
-    (λ r. h.1 (subst (λ (q : ℕ). Refutes p.inst (weight_of p.weighting) q n given)
-    (least-one p.inst (weight_of p.weighting) r.least p.least r.is_least path.is_least) r.refutes)))))
+    (subst (λ (ms : List Mark). IsTrue b ↔ IsRefutation p.inst (weight_of p.weighting) n ms) em (
+      (λ t. record { least = p.least; is_least = path.is_least; refutes = h.0 t }),
+      (λ r. h.1 (subst (λ (q : ℕ). Refutes p.inst (weight_of p.weighting) q n given)
+          (least-one p.inst (weight_of p.weighting) r.least p.least r.is_least path.is_least) r.refutes)),
+    )))
 
 -- and that it bounds
 pub refutation-bounds :

@@ -1,13 +1,13 @@
 -- The next normal place.
-use Rattle.std.proofs.Common.{◌≡◌, ◌≢◌, ℕ, zero, suc, ◌+◌, ◌-◌, ◌*◌, ◌/◌, ◌%◌, ◌<◌, ◌≤◌, ◌⊎◌, inl, inr, Bool, true, false, arith, subst, sym, refl, ap, ◌∙◌}
+use Rattle.std.proofs.Common.{◌≡◌, ℕ, zero, suc, ◌+◌, ◌-◌, ◌*◌, ◌/◌, ◌%◌, ◌<◌, ◌≤◌, ◌⊎◌, inl, inr, Bool, true, false, arith, subst, sym, refl, ◌∙◌}
 use Rattle.std.specs.Prelude.{nat_le, ◌==◌, ◌&&◌, ◌||◌, if◌then◌else◌}
-use Rattle.std.proofs.lemmas.Bool.{cases_lt, cases_Bool}
+use Rattle.std.proofs.lemmas.Bool.{cases_lt}
 use Rattle.std.proofs.lemmas.Bool.Decides.{nat_tests}
 use Rattle.std.proofs.lemmas.Nat.{div-add-mod'}
 use Rattle.std.proofs.Math.Nat.{mul-mod_left, mul-le-mul_left}
 use Rattle.plan_geometry.specs.declared.instances.Inst.{Inst}
 use Rattle.partitions.specs.Partitions.{IsNormal}
-use Rattle.raster_points.specs.Places.{IsLeastAbove, IsNext}
+use Rattle.raster_points.specs.Places.{IsNext}
 use Rattle.cert_rules.specs.Next.{is_sum, normal_from, next}
 use Rattle.cert_rules.specs.Laws.{NextIsNormal}
 
@@ -144,26 +144,26 @@ pub next_is_normal : NextIsNormal
 next_is_normal i side v le =
     elim (cases_lt side (normal_from i (side - v) (v + 1))) [
       | inl past ↦ inr (
-          (λ other normal.
-              elim (cases_lt v other) [
-                | inl above ↦
-                    let most : normal_from i (side - v) (v + 1) ≤ other =
-                    normal_from-least i (side - v) (v + 1) other (sum_of i side other normal) (omega arith) in
-                    let within : other ≤ side = normal.within in
-                    absurd (omega arith)
-                | inr below ↦ below
-              ]),
-          omega arith,
-        )
+        (λ other normal.
+            elim (cases_lt v other) [
+              | inl above ↦
+                  let most : normal_from i (side - v) (v + 1) ≤ other =
+                  normal_from-least i (side - v) (v + 1) other (sum_of i side other normal) (omega arith) in
+                  let within : other ≤ side = normal.within in
+                  absurd (omega arith)
+              | inr below ↦ below
+            ]),
+        omega arith,
+      )
       | inr within ↦
           let here : next i side v ≡ normal_from i (side - v) (v + 1) = omega arith in
           let up : v + 1 ≤ normal_from i (side - v) (v + 1) = normal_from-above i (side - v) (v + 1) in
           elim (normal_from-found i (side - v) (v + 1)) [
             | inl sum ↦ inl (record {
-                normal = record { i = sum.0; j = sum.1; sum = here ∙ sym sum.2; within = omega arith };
-                above = omega arith;
-                least = λ other normal above. next-least i side v other normal above;
-              })
+              normal = record { i = sum.0; j = sum.1; sum = here ∙ sym sum.2; within = omega arith };
+              above = omega arith;
+              least = λ other normal above. next-least i side v other normal above;
+            })
             | inr none ↦ absurd (omega arith)
           ]
     ]

@@ -1,5 +1,5 @@
 -- The states of lawful paths.
-use Rattle.std.proofs.Common.{◌≡◌, ℕ, suc, ◌+◌, ◌<◌, ◌≤◌, inl, inr, Bool, true, List, [], ◌∷◌, ◌++◌, length, get_or, set, length-set, ◌-◌, ◌*◌, arith, subst, sym, refl, ap, ◌∙◌, length-append, take, drop, take-append-drop}
+use Rattle.std.proofs.Common.{◌≡◌, ℕ, suc, ◌+◌, ◌<◌, ◌≤◌, inl, inr, Bool, true, List, [], ◌∷◌, ◌++◌, length, get_or, set, length-set, ◌-◌, arith, subst, sym, refl, ap, ◌∙◌, length-append, take, drop, take-append-drop}
 use Rattle.std.proofs.Math.Seq.{take-suc}
 use Rattle.std.specs.Prelude.{nat_le, nat_lt, ◌&&◌, if◌then◌else◌, replicate, IsTrue, reverse, min}
 use Rattle.std.proofs.lemmas.Bool.{cases_lt}

@@ -5,7 +5,7 @@ use Rattle.std.proofs.lemmas.List.{set-set, set_comm, set-get_or}
 use Rattle.cert_rules.specs.Corner.{lowest, before_first, run_of, corner, flat_run, raised}
 use Rattle.cert_rules.specs.Runs.{IsFlat, entry, Leads, HasRuns, Scan}
 use Rattle.cert_rules.specs.declared.skyline.Run.{Run}
-use Rattle.cert_rules.proofs.Heights.{corner-lt, corner-at, corner-first, flat_run-at, flat_run-fits, flat_run-longest, flat_run-some, length-raised, raised-below, raised-in, raised-above}
+use Rattle.cert_rules.proofs.Heights.{corner-lt, corner-at, corner-first, flat_run-at, flat_run-fits, flat_run-longest, flat_run-some, raised-below, raised-in, raised-above}
 use Rattle.cert_rules.proofs.HeightSteps.{lowest-is, before_first-is, run_of-is, run_of-to_end}
 
 pub leads-le : (rs : List Run) (hs : List ℕ) (n a b : ℕ) → Leads rs hs n a b → a ≤ b
@@ -207,71 +207,6 @@ scan-start hs w h some flat = record {
   flat = flat;
   ends = λ lt. absurd (omega arith);
 }
-
-pub scan-lower :
-    (hs : List ℕ) (x y run c w h : ℕ) → Scan hs x y run c → h < y → 0 < w → IsFlat hs c w h → Scan hs c h w (c + w)
-scan-lower hs x y run c w h s lower some flat = record {
-  some = some;
-  within = omega arith;
-  least = λ k lt.
-      elim (cases_lt k c) [
-        | inl old ↦ let le : y ≤ get_or hs k 0 = s.least k old in omega arith
-        | inr new ↦ let e : get_or hs k 0 ≡ h = flat k new lt in omega arith
-      ];
-  first = λ k lt e. let le : y ≤ get_or hs k 0 = s.least k lt in absurd (omega arith);
-  flat = flat;
-  ends = λ lt. absurd (omega arith);
-}
-
-pub scan-wider :
-    (hs : List ℕ) (x y run c w h : ℕ) → Scan hs x y run c → h ≡ y → x + run ≡ c → IsFlat hs c w h → Scan hs x y (run + w) (c + w)
-scan-wider hs x y run c w h s same here flat =
-    let some : 0 < run = s.some in
-    record {
-      some = omega arith;
-      within = omega arith;
-      least = λ k lt.
-          elim (cases_lt k c) [
-            | inl old ↦ s.least k old
-            | inr new ↦ let e : get_or hs k 0 ≡ h = flat k new lt in omega arith
-          ];
-      first = s.first;
-      flat = λ k from to.
-          elim (cases_lt k c) [
-            | inl old ↦ s.flat k from (omega arith)
-            | inr new ↦ flat k new (omega arith) ∙ same
-          ];
-      ends = λ lt. absurd (omega arith);
-    }
-
-pub scan-past :
-    (hs : List ℕ) (x y run c w h : ℕ)
-    → Scan hs x y run c
-    → y ≤ h
-    → (h ≡ y → x + run ≡ c → ⊥)
-    → 0 < w
-    → IsFlat hs c w h
-    → Scan hs x y run (c + w)
-scan-past hs x y run c w h s above apart some flat =
-    let within : x + run ≤ c = s.within in
-    record {
-      some = s.some;
-      within = omega arith;
-      least = λ k lt.
-          elim (cases_lt k c) [
-            | inl old ↦ s.least k old
-            | inr new ↦ let e : get_or hs k 0 ≡ h = flat k new lt in omega arith
-          ];
-      first = s.first;
-      flat = s.flat;
-      ends = λ lt e.
-          elim (cases_lt (x + run) c) [
-            | inl old ↦ s.ends old e
-            | inr new ↦
-                let there : get_or hs (x + run) 0 ≡ h = flat (x + run) new lt in
-                apart (sym there ∙ e) (omega arith)
-          ];
-    }
 
 -- what a scan of all columns finds
 pub scan-end :

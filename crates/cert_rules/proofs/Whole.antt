@@ -9,7 +9,6 @@ use Rattle.cert_rules.specs.Corner.{weight_above}
 use Rattle.cert_rules.specs.Corner.{State, lowest, allows, case_of, after, children, above}
 use Rattle.cert_rules.specs.Refute.{RefutesEach, Refutes}
 use Rattle.cert_rules.specs.Walk.{walked, left_after, met_one, mark_of, is_leaf, NoneHas}
-
 use Rattle.plan_geometry.specs.declared.instances.Inst.{Inst}
 use Rattle.cert_rules.specs.declared.steps.Step.{Step}
 use Rattle.cert_rules.specs.declared.steps.Step.TheVariants.{Lying, Standing, Waste}

@@ -1,10 +1,10 @@
 -- What a skyline keeps to take steps off.
-use Rattle.std.specs.Prelude.{◌≡◌, ℕ, ◌+◌, ◌<◌, ◌≤◌, ◌*◌, List, [], ◌∷◌, length, reverse, slice_set}
+use Rattle.std.specs.Prelude.{◌≡◌, ℕ, ◌+◌, ◌<◌, ◌≤◌, List, [], ◌∷◌, length, reverse, slice_set}
 use Rattle.cert_rules.specs.Corner.{state_of, above, corner, lowest}
 use Rattle.cert_rules.specs.Runs.{HasRuns}
 use Rattle.weightings.specs.Weighting.{weight_of, IsLawfulWeighting, IsLeastWeight}
 use Rattle.cert_rules.specs.Path.{Path, IsLawfulPath}
-use Rattle.cert_rules.specs.Tables.{SideOf, IsTableOf}
+use Rattle.cert_rules.specs.Tables.{IsTableOf}
 use Rattle.plan_geometry.specs.declared.instances.Inst.{Inst}
 use Rattle.cert_rules.specs.declared.steps.Step.{Step}
 use Rattle.weightings.specs.declared.kinds.Weighting.{Weighting}

@@ -1,11 +1,11 @@
 -- Laws over the definitions.
-use Rattle.std.specs.Prelude.{◌≡◌, ◌≢◌, ℕ, ◌+◌, ◌<◌, ◌≤◌, List, [], ◌∷◌, length, map}
+use Rattle.std.specs.Prelude.{◌≡◌, ℕ, ◌+◌, ◌<◌, ◌≤◌, List, [], map}
 use Rattle.plan_geometry.specs.declared.instances.Inst.{Inst}
 use Rattle.plan_geometry.specs.Layout.{IsLayout}
 use Rattle.raster_points.specs.Places.{IsNext}
 use Rattle.cert_rules.specs.declared.steps.Step.{Step}
 use Rattle.cert_rules.specs.Next.{next}
-use Rattle.cert_rules.specs.Corner.{State, state_of}
+use Rattle.cert_rules.specs.Corner.{state_of}
 use Rattle.cert_rules.specs.Refute.{Refutes}
 use Rattle.cert_rules.specs.Walk.{walked, mark_of, NoneHas}
 use Rattle.cert_rules.specs.Path.{IsLawfulPath}

@@ -1,5 +1,5 @@
 -- What contracts see of a skyline.
-use Rattle.std.specs.Prelude.{◌≡◌, ℕ, ◌<◌, IsTrue, List, [], ◌∷◌}
+use Rattle.std.specs.Prelude.{ℕ, ◌<◌, IsTrue, List, [], ◌∷◌}
 use Rattle.plan_geometry.specs.declared.instances.Inst.{Inst}
 use Rattle.weightings.specs.declared.kinds.Weighting.{Weighting}
 use Rattle.weightings.specs.Weighting.{weight_of, IsLeastWeight}

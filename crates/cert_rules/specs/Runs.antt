@@ -1,6 +1,5 @@
 -- Runs of equal height.
 use Rattle.std.specs.Prelude.{◌≡◌, ◌≢◌, ℕ, zero, suc, ◌+◌, ◌<◌, ◌≤◌, List, slice_index_or}
-use Rattle.cert_rules.specs.Corner.{corner, lowest}
 use Rattle.cert_rules.specs.declared.skyline.Run.{Run}
 
 -- some columns from a on have the height h

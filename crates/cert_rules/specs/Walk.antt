@@ -1,5 +1,5 @@
 -- The walk over the states of an instance, in preorder.
-use Rattle.std.specs.Prelude.{◌≡◌, ◌≢◌, ℕ, ◌+◌, ◌/◌, ◌==◌, Bool, nat_le, if◌then◌else◌, List, [], ◌∷◌, ◌++◌, length}
+use Rattle.std.specs.Prelude.{◌≢◌, ℕ, ◌+◌, ◌/◌, ◌==◌, Bool, nat_le, if◌then◌else◌, List, [], ◌∷◌, ◌++◌, length}
 use Rattle.std.proofs.Common.{zero, suc}
 use Rattle.cert_rules.specs.Corner.{State, start, children, above}
 use Rattle.plan_geometry.specs.declared.instances.Inst.{Inst}
@@ -34,10 +34,6 @@ walked i g q n (suc k) = met_one i g q n (walked i g q n k).met (walked i g q n 
 -- the walk has more than k states
 abbrev pub IsLonger : Inst → (ℕ → ℕ → ℕ) → ℕ → ℕ → ℕ → Type 0
 IsLonger i g q n k = (walked i g q n k).left ≢ []
-
--- the whole walk
-abbrev pub IsWalk : Inst → (ℕ → ℕ → ℕ) → ℕ → ℕ → List State → Type 0
-IsWalk i g q n states = (k : ℕ) × (walked i g q n k ≡ record { met = states; left = [] })
 
 -- the mark of a state
 abbrev pub mark_of : Inst → (ℕ → ℕ → ℕ) → ℕ → ℕ → State → Mark

@@ -27,12 +27,7 @@ pub enum Reading {
 }
 
 // Reads a mark, and goes to the next state.
-fn read_mark(
-    sky: &mut Skyline,
-    path: &mut Vec<Step>,
-    n: u32,
-    mark: Mark,
-) -> Result<Reading, Memory>
+fn read_mark(sky: &mut Skyline, path: &mut Vec<Step>, n: u32, mark: Mark) -> Result<Reading, Memory>
     requires room { length sky.old.steps < 500000 }
     requires same { sky.old.steps ≡ reverse path.old.items }
     ensures reading { IfOk result (λ r. Reads sky.old sky.new n mark r) }
@@ -61,12 +56,7 @@ fn read_mark(
 }
 
 // Whether the marks are one tree that refutes n for the start.
-fn read_all(
-    sky: &mut Skyline,
-    path: &mut Vec<Step>,
-    n: u32,
-    marks: &[Mark],
-) -> Result<bool, Memory>
+fn read_all(sky: &mut Skyline, path: &mut Vec<Step>, n: u32, marks: &[Mark]) -> Result<bool, Memory>
     requires start { sky.old.steps ≡ [] }
     requires none { path.old.items ≡ [] }
     requires few { length marks.now ≤ 500000 }

@@ -37,11 +37,7 @@ impl NextPlaces {
         for place in 0..side + 1 {
             places.push(points.next(place))?;
         }
-        Ok(NextPlaces {
-            inst,
-            side,
-            places,
-        })
+        Ok(NextPlaces { inst, side, places })
     }
 
     /// The next normal place.

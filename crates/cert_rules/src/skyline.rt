@@ -263,7 +263,14 @@ impl Skyline {
         let at = self.corner();
         let columns = width_of(self.inst, &self.across, at, step);
         let height = height_of(self.inst, &self.along, at, step);
-        let weight = block(self.inst, &self.weighting, at.x, at.y, columns, height - at.y);
+        let weight = block(
+            self.inst,
+            &self.weighting,
+            at.x,
+            at.y,
+            columns,
+            height - at.y,
+        );
         let end = at.x + columns;
         let first = self.runs[at.x as usize];
         let second = self.runs[end as usize];

@@ -1,3 +1,8 @@
+ghost use Rattle.std.specs.Prelude.{IsTrue};
+ghost use Rattle.plan_geometry.specs.Layout.{CaseFits};
+ghost use Rattle.plan_geometry.specs.Weight.{WeighsAtLeast};
+ghost use Rattle.weightings.specs.Weighting.{weight_of, IsLawfulWeighting};
+
 use crate::{Skyline, Step, refutes};
 use plan_geometry::{Inst, Spot, Way, case_fits};
 use plan_memory::Memory;
@@ -6,8 +11,15 @@ use std::test::Fail;
 use weightings::{Mark, Marks, WeightTable, Weighting};
 
 // Whether a tree can be asked for: a case fits, the weighting belongs, and each case weighs something.
-fn can_start(inst: Inst, weighting: &Weighting) -> bool {
-    case_fits(inst) && weighting.belongs(inst) && weighting.least(inst) > 0
+fn can_start(inst: Inst, weighting: &Weighting) -> bool
+    ensures fits { IsTrue result → CaseFits inst }
+    ensures lawful { IsTrue result → IsLawfulWeighting inst weighting.now }
+    ensures positive { IsTrue result → WeighsAtLeast (weight_of weighting.now) inst 1 }
+{
+    if !case_fits(inst) || !weighting.belongs(inst) {
+        return false;
+    }
+    0 < weighting.least(inst)
 }
 
 // Makes a move, where the state has it.
@@ -107,7 +119,10 @@ fn marks_of_a_tree(rt: HostRuntime) -> Result<(), Fail> {
     let area = Weighting::Area;
     assert_eq!(rt; refuted(rt.alloc(), inst, &area, 1, b"BBB..")?, Some(true));
     assert_eq!(rt; refuted(rt.alloc(), inst, &area, 1, b"BBB.")?, Some(false));
-    assert_eq!(rt; refuted(rt.alloc(), inst, &area, 1, b"BBB...")?, Some(false));
+    assert_eq!(rt;
+        refuted(rt.alloc(), inst, &area, 1, b"BBB...")?,
+        Some(false)
+    );
     assert_eq!(rt; refuted(rt.alloc(), inst, &area, 1, b".")?, Some(false));
     assert_eq!(rt; refuted(rt.alloc(), inst, &area, 2, b".")?, Some(true));
     Ok(())

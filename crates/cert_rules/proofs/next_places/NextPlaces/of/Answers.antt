@@ -1,4 +1,4 @@
-use Rattle.std.proofs.Common.{◌≡◌, ◌≤◌, arith}
+use Rattle.std.proofs.Common.{◌≤◌, arith}
 use Rattle.raster_points.specs.Places.{IsNext}
 use Rattle.cert_rules.proofs.NextPoint.{next-is}
 use Rattle.cert_rules.proofs.NextTable.{next-more}

@@ -1,15 +1,14 @@
-use Rattle.std.proofs.Common.{◌≡◌, ◌≤◌, ◌<◌, ◌+◌, ◌-◌, ℕ, List, [], ◌∷◌, length, get_or, ap, ◌∙◌, subst, sym, arith, true, false, Bool, refl, length-set}
+use Rattle.std.proofs.Common.{◌≡◌, ◌≤◌, ◌<◌, ◌+◌, ◌-◌, ℕ, List, [], ◌∷◌, length, ap, ◌∙◌, subst, sym, arith, true, false, Bool, refl}
 use Rattle.std.specs.Prelude.{reverse, IsTrue, if◌then◌else◌}
 use Rattle.std.proofs.lemmas.List.{reverse-append, with_items_is, get_or_read}
 use Rattle.std.specs.Vec.{with_items}
 use Rattle.cert_rules.specs.Corner.{state_of, allows, is_case, corner, lowest, flat_run}
 use Rattle.cert_rules.specs.Path.{Path, state}
 use Rattle.cert_rules.specs.Frames.{steps_of}
-use Rattle.cert_rules.specs.Runs.{entry}
 use Rattle.cert_rules.specs.declared.skyline.Frame.{Frame}
 use Rattle.cert_rules.specs.declared.skyline.Run.{Run}
 use Rattle.cert_rules.proofs.RunSteps.{put, put-length}
-use Rattle.cert_rules.proofs.Paths.{spots-few, length-steps_of, Keeps, Keeps-step, Makes, step-numbers, step-light}
+use Rattle.cert_rules.proofs.Paths.{spots-few, length-steps_of, Keeps, Keeps-step, step-numbers, step-light}
 use Rattle.cert_rules.proofs.skyline.Skyline.advance.Goals as goal
 use Rattle.cert_rules.proofs.skyline.Skyline.advance.Goals.{After-places}
 

@@ -1,4 +1,4 @@
-use Rattle.std.proofs.Common.{◌≡◌, ◌<◌, ◌≤◌, ◌+◌, ℕ, List, length, ap, ◌∙◌, subst, sym, arith}
+use Rattle.std.proofs.Common.{◌≡◌, ◌≤◌, ◌+◌, ℕ, List, length, ap, ◌∙◌, subst, sym, arith}
 use Rattle.cert_rules.specs.Path.{Path, state}
 use Rattle.cert_rules.specs.Runs.{HasRuns}
 use Rattle.cert_rules.specs.declared.skyline.Run.{Run}

@@ -1,6 +1,6 @@
-use Rattle.std.proofs.Common.{◌≡◌, ◌≤◌, ◌+◌, ◌++◌, ◌∷◌, List, [], length, ◌∙◌, arith, ap, sym, subst, append-nil}
+use Rattle.std.proofs.Common.{◌≡◌, ◌+◌, ◌++◌, ◌∷◌, List, [], ◌∙◌, ap, sym, subst, append-nil}
 use Rattle.std.specs.Prelude.{reverse, option_to_list}
-use Rattle.cert_rules.specs.Path.{Path, IsLawfulPath, state}
+use Rattle.cert_rules.specs.Path.{Path}
 use Rattle.cert_rules.proofs.Placed.{paths_place_layouts}
 use Rattle.cert_rules.specs.Corner.{state_of}
 use Rattle.cert_rules.specs.Frames.{steps_of, KeepsCorners}

@@ -1,4 +1,4 @@
-use Rattle.std.proofs.Common.{◌≡◌, ℕ, arith, sym, subst}
+use Rattle.std.proofs.Common.{◌≡◌, sym, subst}
 use Rattle.plan_geometry.specs.Weight.{total_weight}
 use Rattle.weightings.specs.Weighting.{weight_of, IsLawfulWeighting, IsLeastWeight}
 use Rattle.weightings.specs.declared.kinds.Weighting.{Weighting}
