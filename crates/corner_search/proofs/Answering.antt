@@ -1,21 +1,20 @@
 -- The answer of a walk, said of the numbers that its path was made of.
-use Rattle.std.proofs.Common.{◌≡◌, ℕ, zero, suc, ◌+◌, ◌<◌, ◌≤◌, List, [], ◌∷◌, ◌++◌, length, arith, subst, sym, refl, ap, ◌∙◌, length-append, append-nil}
+use Rattle.std.proofs.Common.{◌≡◌, ℕ, zero, suc, ◌+◌, ◌<◌, ◌≤◌, List, [], ◌∷◌, ◌++◌, length, arith, subst, sym, ap, ◌∙◌, length-append, append-nil}
 use Rattle.std.proofs.lemmas.List.{length-map}
 use Rattle.std.specs.Prelude.{map, IsPermutation}
 use Rattle.std.proofs.lemmas.List.Sorted.{length_permutation}
 use Rattle.plan_geometry.specs.declared.instances.Inst.{Inst}
-use Rattle.plan_geometry.specs.Layout.{IsBounded}
 use Rattle.plan_geometry.specs.Placed.{Placed, IsLayer}
 use Rattle.weightings.specs.declared.certs.Mark.{Mark}
 use Rattle.weightings.specs.declared.kinds.Weighting.{Weighting}
 use Rattle.weightings.specs.Weighting.{weight_of}
 use Rattle.cert_rules.specs.Corner.{State}
 use Rattle.cert_rules.specs.Path.{Path, IsPath, state}
-use Rattle.cert_rules.specs.Refute.{Refutes, RefutesEach, IsRefutation}
+use Rattle.cert_rules.specs.Refute.{Refutes, RefutesEach}
 use Rattle.cert_rules.specs.Walk.{Progress, walked, met_one, mark_of, NoneHas}
 use Rattle.cert_rules.proofs.Refuting.{refutes_bounds}
 use Rattle.cert_rules.proofs.Whole.{walked-refutes}
-use Rattle.corner_search.specs.Search.{EndsIn, EndsWith, Ends, IsAnswer, Tells}
+use Rattle.corner_search.specs.Search.{EndsWith, IsAnswer, Tells}
 use Rattle.corner_search.specs.Visiting.{Concludes}
 use Rattle.corner_search.specs.declared.search.Walk.TheVariants.{Refuted, Found, Spent}
 use Rattle.corner_search.specs.declared.search.Outcome.{Outcome}
