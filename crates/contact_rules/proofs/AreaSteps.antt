@@ -1,5 +1,5 @@
 -- The areas that a case shares with the cases of a layer fit: the layer's cases have no more cells than the pallet.
-use Rattle.std.proofs.Common.{◌≡◌, ℕ, ◌+◌, ◌-◌, ◌*◌, ◌/◌, ◌<◌, ◌≤◌, List, length, arith}
+use Rattle.std.proofs.Common.{ℕ, ◌+◌, ◌*◌, ◌≤◌, List, length, arith}
 use Rattle.std.proofs.lemmas.Nat.{mul-le}
 use Rattle.std.proofs.Math.Nat.{div-mul-le_self}
 use Rattle.plan_geometry.specs.declared.spots.Axis.TheVariants.{X, Y}

@@ -1,6 +1,6 @@
 -- The cases of a layout that cross a line are few: each covers a cell of the line, and no two the same.
-use Rattle.std.proofs.Common.{◌≡◌, ◌≢◌, ℕ, zero, suc, ◌+◌, ◌-◌, ◌*◌, ◌<◌, ◌≤◌, Bool, true, false, cond, eqb, List, [], ◌∷◌, ◌++◌, length, get_or, take, map, filter, ap, sym, subst, refl, ◌∙◌, inl, inr, arith}
-use Rattle.std.specs.List.{All, count_by}
+use Rattle.std.proofs.Common.{◌≡◌, ◌≢◌, ℕ, zero, suc, ◌+◌, ◌-◌, ◌*◌, ◌<◌, ◌≤◌, Bool, true, false, cond, eqb, List, [], ◌∷◌, ◌++◌, length, get_or, take, map, filter, ap, refl, ◌∙◌, inl, inr, arith}
+use Rattle.std.specs.List.{count_by}
 use Rattle.std.proofs.lemmas.Bool.{cases_Bool, cases_eq, eq-eqb, ne_eqb}
 use Rattle.std.proofs.lemmas.List.{length-map, append-nil, map-append}
 use Rattle.std.proofs.lemmas.List.Elements.{filter_more}
@@ -9,11 +9,10 @@ use Rattle.plan_geometry.specs.declared.spots.Axis.{Axis}
 use Rattle.plan_geometry.specs.declared.spots.Axis.TheVariants.{X, Y}
 use Rattle.plan_geometry.specs.declared.spots.Spot.{Spot}
 use Rattle.plan_geometry.specs.declared.instances.Inst.{Inst}
-use Rattle.plan_geometry.specs.Layout.{side, extent, start, x_extent, y_extent, IsLayout}
+use Rattle.plan_geometry.specs.Layout.{extent, start, x_extent, y_extent, IsLayout}
 use Rattle.plan_geometry.specs.Weight.{sum_below, spot_weight, total_weight}
 use Rattle.plan_geometry.proofs.Counting.{sum_below-none, sum_below-same, sum_below-le, sum_below-const, weights, weights-le-total}
 use Rattle.plan_geometry.proofs.Order.{extents-some}
-use Rattle.contact_rules.specs.Real.{IsGapOf, real_finish}
 use Rattle.contact_rules.specs.Steps.{span_of, crosses, crossing}
 use Rattle.contact_rules.proofs.SpanSteps.{crosses-line}
 

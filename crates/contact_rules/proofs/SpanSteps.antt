@@ -1,7 +1,7 @@
 -- Runs that are free of spans: where they stop, and that the longest begins at 0 or where a span ends.
-use Rattle.std.proofs.Common.{◌≡◌, ◌≢◌, ℕ, zero, suc, ◌+◌, ◌-◌, ◌<◌, ◌≤◌, min, ◌⊎◌, ◌↔◌, Bool, true, false, cond, List, [], ◌∷◌, ◌++◌, length, get_or, map, filter, ap, sym, subst, refl, ◌∙◌, inl, inr, arith, length-append}
-use Rattle.std.specs.List.{All, Any}
-use Rattle.std.proofs.lemmas.Bool.{cases_Bool, cases_lt, cases_order}
+use Rattle.std.proofs.Common.{◌≡◌, ℕ, zero, suc, ◌+◌, ◌-◌, ◌<◌, ◌≤◌, min, ◌⊎◌, ◌↔◌, Bool, true, false, cond, List, [], ◌∷◌, ◌++◌, length, get_or, map, filter, ap, sym, subst, refl, ◌∙◌, inl, inr, arith, length-append}
+use Rattle.std.specs.List.{All}
+use Rattle.std.proofs.lemmas.Bool.{cases_Bool, cases_lt}
 use Rattle.std.proofs.lemmas.Bool.Decides.{nat_tests}
 use Rattle.std.proofs.lemmas.List.{get_or_append_left, get_or-append_right}
 use Rattle.std.proofs.lemmas.List.Elements.{All-nil, All-cons, All-head, All-tail, All-append}
@@ -11,7 +11,7 @@ use Rattle.plan_geometry.specs.declared.instances.Inst.{Inst}
 use Rattle.plan_geometry.specs.Layout.{start, IsInside}
 use Rattle.contact_rules.specs.declared.spans.Span.{Span}
 use Rattle.contact_rules.specs.Real.{IsGapOf, other, real_side, real_finish}
-use Rattle.contact_rules.specs.Cut.{EachCase, Crosses, IsRun}
+use Rattle.contact_rules.specs.Cut.{Crosses, IsRun}
 use Rattle.contact_rules.specs.Steps.{LiesIn, IsSpanWithin, IsFree, StopsBy, span_of, crosses, crossing}
 use Rattle.contact_rules.proofs.RunSteps.{some_or_none, extent-some, finish-inside}
 

@@ -14,24 +14,18 @@ pub fn most_short(side: u32, long: u32, short: u32, i: u32) -> u32
 }
 
 /// The maximal partition of a side with the least first number that is at least `i`; None exactly where
-/// there is none.
+/// there is none. The most short case sides beside `i` long ones leave less than a short one, so less than a
+/// long one too: the two make a maximal partition.
 pub fn maximal_from(side: u32, long: u32, short: u32, i: u32) -> Option<(u32, u32)>
     requires positive { 1 ≤ short }
     requires ordered { short ≤ long }
     ensures found { IfSome result (λ p. IsNextMaximal side long short i p.0 p.1) }
     ensures none { IfNone result (HasNoMaximalFrom side long short i) }
 {
-    let rows = side / long;
-    if i > rows {
+    if i > side / long {
         return None;
     }
-    for k in i..rows {
-        let j = most_short(side, long, short, k);
-        if side - k * long - j * short < long {
-            return Some((k, j));
-        }
-    }
-    Some((rows, most_short(side, long, short, rows)))
+    Some((i, most_short(side, long, short, i)))
 }
 
 // Whether the same pairs are feasible on two sides, each with its own case.

@@ -1,16 +1,15 @@
 -- Where lines and words end.
-use Rattle.std.proofs.Common.{◌≡◌, ℕ, suc, ◌+◌, ◌<◌, ◌≤◌, ◌-◌, List, [], ◌∷◌, ◌++◌, length, get_or, take, drop, Option, Some, None, refl, sym, ap, subst, ◌∙◌, append_assoc, arith, Bool, true, false, cond, eqb, inl, inr, length-drop}
+use Rattle.std.proofs.Common.{◌≡◌, ℕ, ◌+◌, ◌<◌, ◌≤◌, ◌-◌, List, [], ◌∷◌, ◌++◌, length, get_or, take, drop, Some, None, refl, sym, ap, subst, ◌∙◌, append_assoc, arith, Bool, false, cond, eqb, inl, inr, length-drop}
 use Rattle.std.proofs.Math.Numerals.{one-add}
-use Rattle.std.specs.List.{flat_map, slice_split, AllByRecursion, position, position_or_len, count_by}
+use Rattle.std.specs.List.{AllByRecursion, position, position_or_len, count_by}
 use Rattle.std.proofs.lemmas.Bool.{cases_Bool, eqb-true}
-use Rattle.std.proofs.lemmas.List.{append-nil, take_all}
+use Rattle.std.proofs.lemmas.List.{take_all}
 use Rattle.std.proofs.lemmas.List.Elements.{All-from_recursion}
 use Rattle.std.proofs.lemmas.List.Concat.{flat_map-cons}
-use Rattle.std.proofs.lemmas.List.Sums.{split_at_first, passes_at_first, prefix_len-le-length}
+use Rattle.std.proofs.lemmas.List.Sums.{split_at_first, passes_at_first}
 use Rattle.std.proofs.lemmas.List.Splits.{slice_split_first, slice_split_none}
 use Rattle.std.proofs.lemmas.List.Recursion.{is_count_by}
-use Rattle.std.proofs.lemmas.List.Quantifiers.{position-Some}
-use Rattle.texts.specs.Lines.{onto_line, whole_lines, onto_rest, unfinished, ended, text_of, TakesLine, words_of, words_left}
+use Rattle.texts.specs.Lines.{onto_line, whole_lines, onto_rest, unfinished, ended, text_of, TakesLine, words_of}
 
 abbrev pub is_end : ℕ → Bool
 is_end b = eqb b 10

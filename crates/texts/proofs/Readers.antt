@@ -1,6 +1,6 @@
 -- What a reader of a grammar owes, and how readers are put together.
-use Rattle.std.proofs.Common.{◌≡◌, ℕ, suc, List, [], ◌∷◌, ◌++◌, length, Option, Some, None, Result, Ok, Err, refl, sym, ap, subst, ◌∙◌, append_assoc, arith, ◌⊎◌, inl, inr}
-use Rattle.texts.specs.Grammar.{Begins, NoneGoesOn, Stops, StopsAt, Reads, Reading, ◌>>=◌, or_stop, first_by}
+use Rattle.std.proofs.Common.{◌≡◌, ℕ, suc, List, [], ◌∷◌, ◌++◌, length, Option, Some, None, Result, Ok, Err, refl, sym, ap, subst, ◌∙◌, append_assoc, ◌⊎◌, inl, inr}
+use Rattle.texts.specs.Grammar.{Begins, NoneGoesOn, StopsAt, Reads, Reading, ◌>>=◌, or_stop, first_by}
 
 -- ---- equations between answers
 

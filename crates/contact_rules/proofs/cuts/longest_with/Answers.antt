@@ -1,4 +1,4 @@
-use Rattle.std.proofs.Common.{◌≡◌, ℕ, ◌≤◌, ◌<◌, ◌⊎◌, ◌∙◌, max, inl, inr, arith}
+use Rattle.std.proofs.Common.{◌≡◌, ◌≤◌, max, inl, inr, arith}
 use Rattle.std.proofs.lemmas.Bool.{cases_lt}
 use Rattle.contact_rules.proofs.cuts.longest_with.Goals as goal
 

@@ -1,4 +1,4 @@
-use Rattle.std.proofs.Common.{◌≡◌, ℕ, ◌≤◌, ◌⊎◌, take}
+use Rattle.std.proofs.Common.{◌≡◌, ◌≤◌, ◌⊎◌, take}
 use Rattle.std.specs.List.{All, Any}
 use Rattle.contact_rules.specs.Real.{real_finish}
 use Rattle.contact_rules.specs.Steps.{EndsFrom}

@@ -1,4 +1,4 @@
-use Rattle.std.proofs.Common.{◌≡◌, ℕ, ◌≤◌, ◌⊎◌, ◌∙◌, inl, inr, sym, arith}
+use Rattle.std.proofs.Common.{◌∙◌, inl, inr}
 use Rattle.contact_rules.proofs.RunSteps.{EndsFrom-less}
 use Rattle.contact_rules.proofs.cuts.next_line.Goals as goal
 

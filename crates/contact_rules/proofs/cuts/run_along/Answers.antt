@@ -1,7 +1,7 @@
-use Rattle.std.proofs.Common.{◌≡◌, ◌≢◌, ℕ, ◌+◌, ◌<◌, ◌≤◌, ◌⊎◌, ◌∙◌, subst, sym, inl, inr, arith}
+use Rattle.std.proofs.Common.{◌≡◌, ◌<◌, subst, sym, inl, inr, arith}
 use Rattle.contact_rules.specs.Real.{real_side, real_finish}
-use Rattle.contact_rules.specs.Cut.{EachCase, SomeCase}
-use Rattle.contact_rules.proofs.RunSteps.{IsGreatestBefore, greatest-next, greatest-passed, greatest-whole, EndsFrom-later}
+use Rattle.contact_rules.specs.Cut.{SomeCase}
+use Rattle.contact_rules.proofs.RunSteps.{greatest-next, greatest-passed, greatest-whole, EndsFrom-later}
 use Rattle.contact_rules.proofs.cuts.run_along.Goals as goal
 use Rattle.contact_rules.proofs.cuts.run_along.Goals.{then-line-next, else-line-next}
 

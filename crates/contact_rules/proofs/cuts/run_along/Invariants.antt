@@ -1,4 +1,4 @@
-use Rattle.std.proofs.Common.{◌≡◌, ℕ, ◌≤◌, ◌⊎◌}
+use Rattle.std.proofs.Common.{◌≡◌, ◌≤◌, ◌⊎◌}
 use Rattle.contact_rules.specs.Real.{real_side, real_finish}
 use Rattle.contact_rules.specs.Cut.{EachCase, SomeCase}
 use Rattle.contact_rules.specs.Steps.{EndsFrom}

@@ -1,4 +1,4 @@
-use Rattle.std.proofs.Common.{◌≤◌, take}
+use Rattle.std.proofs.Common.{take}
 use Rattle.std.specs.List.{All}
 use Rattle.contact_rules.specs.Rules.{Touches}
 use Rattle.contact_rules.proofs.rules.all_touch.Given as goal

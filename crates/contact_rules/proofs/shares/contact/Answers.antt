@@ -1,4 +1,4 @@
-use Rattle.std.proofs.Common.{◌≡◌, ◌≤◌, ◌+◌, ◌*◌, List, length, sym, subst, arith}
+use Rattle.std.proofs.Common.{◌≤◌, ◌+◌, ◌*◌, List, length, sym, subst, arith}
 use Rattle.plan_geometry.specs.declared.spots.Spot.{Spot}
 use Rattle.plan_geometry.specs.Layout.{IsLayout}
 use Rattle.contact_rules.proofs.AreaSteps.{part-area, more-area}

@@ -1,4 +1,4 @@
-use Rattle.std.proofs.Common.{◌≡◌, sym}
+use Rattle.std.proofs.Common.{sym}
 use Rattle.contact_rules.proofs.CellSteps.{shared-product}
 use Rattle.contact_rules.proofs.AreaSteps.{area-small}
 use Rattle.contact_rules.proofs.shares.shared_area.Goals as goal

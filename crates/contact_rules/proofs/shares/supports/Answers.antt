@@ -1,4 +1,4 @@
-use Rattle.std.proofs.Common.{◌≡◌, ◌≤◌, ◌+◌, List, length, subst, arith}
+use Rattle.std.proofs.Common.{◌≤◌, ◌+◌, List, length, subst, arith}
 use Rattle.plan_geometry.specs.declared.spots.Spot.{Spot}
 use Rattle.contact_rules.proofs.AreaSteps.{layer-count}
 use Rattle.contact_rules.proofs.shares.supports.Goals as goal

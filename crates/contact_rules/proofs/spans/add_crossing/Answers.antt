@@ -1,4 +1,4 @@
-use Rattle.std.proofs.Common.{◌≡◌, ◌≤◌, ◌<◌, ◌+◌, ◌∙◌, ◌++◌, [], ◌∷◌, List, length, get_or, take, ap, sym, arith, append_assoc, length-append, rules}
+use Rattle.std.proofs.Common.{◌≡◌, ◌+◌, ◌∙◌, ◌++◌, [], ◌∷◌, List, length, get_or, take, ap, sym, arith, append_assoc, length-append}
 use Rattle.std.proofs.lemmas.List.{take_all, length_push}
 use Rattle.plan_geometry.specs.declared.spots.Spot.{Spot}
 use Rattle.contact_rules.specs.declared.spans.Span.{Span}

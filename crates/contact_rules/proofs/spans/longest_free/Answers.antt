@@ -1,8 +1,7 @@
-use Rattle.std.proofs.Common.{◌≡◌, ℕ, ◌≤◌, ◌<◌, ◌∙◌, max, get_or, take, subst, sym, arith, inl, inr}
+use Rattle.std.proofs.Common.{◌≡◌, ◌≤◌, max, get_or, take, arith, inl, inr}
 use Rattle.std.proofs.lemmas.Bool.{cases_lt}
 use Rattle.std.proofs.lemmas.List.Elements.{All-more, All-nil}
 use Rattle.contact_rules.specs.declared.spans.Span.{Span}
-use Rattle.contact_rules.specs.Steps.{IsFree}
 use Rattle.contact_rules.proofs.RunSteps.{All-end}
 use Rattle.contact_rules.proofs.SpanSteps.{nothing, FreesFrom, FreesFrom-more, frees-bounded}
 use Rattle.contact_rules.proofs.spans.longest_free.Goals as goal

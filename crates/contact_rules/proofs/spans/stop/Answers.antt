@@ -1,6 +1,5 @@
-use Rattle.std.proofs.Common.{◌≡◌, ℕ, ◌≤◌, ◌<◌, ◌↔◌, min, get_or, take, arith}
+use Rattle.std.proofs.Common.{◌≡◌, ◌≤◌, min, get_or}
 use Rattle.std.proofs.lemmas.List.Elements.{All-take}
-use Rattle.contact_rules.specs.declared.spans.Span.{Span}
 use Rattle.contact_rules.specs.Steps.{StopsBy}
 use Rattle.contact_rules.proofs.RunSteps.{iff-more, All-end}
 use Rattle.contact_rules.proofs.SpanSteps.{stop-keeps, stop-takes, nothing}

@@ -1,4 +1,4 @@
-use Rattle.std.proofs.Common.{sym, ◌∙◌}
+use Rattle.std.proofs.Common.{sym}
 use Rattle.texts.proofs.LineEnds.{takes_line, takes_none}
 use Rattle.texts.proofs.lines.next_line.Goals as goal
 

@@ -1,6 +1,6 @@
 use Rattle.std.proofs.Common.{ap, ◌∙◌, ◌≡◌, ◌-◌, refl, arith, Option, Some, None, List, [], ℕ}
 use Rattle.texts.specs.Lines.{words_left}
-use Rattle.texts.specs.Words.{◌>>=◌, numbers_by}
+use Rattle.texts.specs.Words.{numbers_by}
 use Rattle.texts.proofs.NumberLoop.{with_front, goes_on, ends, is_done}
 use Rattle.texts.proofs.words.number_words.Goals as goal
 

@@ -1,0 +1,10 @@
+pub mod OneWord
+pub mod WeightWords
+pub mod CutWords
+pub mod HeadWords
+pub mod RowWords
+pub mod CertReaders
+pub mod CutLoop
+pub mod RowLoop
+pub mod Pieces
+pub mod CertBytes

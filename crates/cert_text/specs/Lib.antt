@@ -1,0 +1,6 @@
+pub mod Forms
+pub mod Ranges
+pub mod Text
+pub mod Words
+pub mod Lines
+pub mod Answers
