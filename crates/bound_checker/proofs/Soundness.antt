@@ -1,19 +1,18 @@
 -- An accepted certificate bounds every layout of the given instance.
-use Rattle.std.proofs.Common.{◌≡◌, ◌≢◌, ℕ, ◌<◌, ◌≤◌, List, arith}
+use Rattle.std.proofs.Common.{◌≢◌, ℕ, ◌<◌, List, arith}
 use Rattle.plan_geometry.specs.declared.instances.Inst.{Inst}
-use Rattle.plan_geometry.specs.Layout.{IsBounded, CaseFits}
+use Rattle.plan_geometry.specs.Layout.{IsBounded}
 use Rattle.plan_geometry.proofs.Counting.{area_bounds}
 use Rattle.partitions.specs.Partitions.{SameSides}
 use Rattle.layout_map.proofs.Admits.{bounded_law}
 use Rattle.weightings.specs.declared.kinds.Weighting.{Weighting}
 use Rattle.weightings.specs.declared.certs.Mark.{Mark}
-use Rattle.weightings.specs.declared.certs.Cert.{Cert}
 use Rattle.weightings.specs.declared.certs.Cert.TheVariants as certs
 use Rattle.weightings.specs.Weighting.{weight_of, IsLeastWeight}
 use Rattle.cert_rules.specs.Refute.{IsRefutation}
 use Rattle.cert_rules.proofs.Refuting.{refutes_bounds}
 use Rattle.strip_cuts.proofs.Bounds.{bound}
-use Rattle.bound_checker.specs.Accepts.{AcceptsWeighted, Holds, Accepts, AcceptedIsBounded}
+use Rattle.bound_checker.specs.Accepts.{AcceptsWeighted, AcceptedIsBounded}
 
 pub weighted_bounds : (I : Inst) (g : Weighting) (n : ℕ) (marks : List Mark) → AcceptsWeighted I g n marks → IsBounded I n
 weighted_bounds I g n marks a =
