@@ -1,0 +1,3 @@
+pub mod BestValues
+pub mod Lines
+pub mod Bounds
