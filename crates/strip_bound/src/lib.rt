@@ -1,0 +1,10 @@
+// The strip bound of an instance, and its certificate.
+#![tactic(auto)]
+
+mod lists;
+mod tables;
+
+pub use tables::strip;
+
+#[cfg(test)]
+mod tests;
