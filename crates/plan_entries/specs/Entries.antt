@@ -6,7 +6,6 @@ use Rattle.plan_geometry.specs.declared.instances.Inst.{Inst}
 use Rattle.plan_geometry.specs.Placed.{Placed}
 use Rattle.layer_symmetry.specs.declared.symmetries.Move.{Move}
 use Rattle.plan_entries.specs.declared.listed.Listed.{Listed}
-use Rattle.plan_entries.specs.declared.entries.Plan.{Plan}
 use Rattle.plan_entries.specs.declared.entries.Entry.{Entry}
 use Rattle.plan_entries.specs.declared.entries.Entry.TheVariants.{Planned, Refused}
 

@@ -1,5 +1,5 @@
 -- The ranges within which an entry has a text of a form.
-use Rattle.std.specs.Prelude.{ℕ, ◌≡◌, ◌+◌, ◌*◌, ◌/◌, nat_le, Bool, true, false, not, ◌&&◌, ◌==◌, List, [], length, map, is_some}
+use Rattle.std.specs.Prelude.{ℕ, ◌≡◌, ◌*◌, ◌/◌, nat_le, Bool, true, false, not, ◌&&◌, ◌==◌, List, length, map, is_some}
 use Rattle.std.specs.List.{list_all}
 use Rattle.std.specs.Cmp.Lexicographic.{pointwise}
 use Rattle.plan_geometry.specs.declared.spots.Spot.{Spot}
