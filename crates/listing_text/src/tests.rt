@@ -70,7 +70,10 @@ fn layers_read(rt: HostRuntime) -> Result<(), Fail> {
     assert_eq!(rt; rest.len(), 0);
     assert_eq!(rt; layers.len(), 2);
     assert!(rt; layers[1].turn == Move::MirrorX);
-    assert!(rt; layers[1].spots.as_slice()[1] == spot(2, 0, Way::Lying));
+    let [_, second, ..] = layers[1].spots.as_slice() else {
+        return Err("cases".into());
+    };
+    assert!(rt; *second == spot(2, 0, Way::Lying));
     assert_eq!(rt; left_of(rt.alloc(), LAYERS, 3), 6);
     assert_eq!(rt; left_of(rt.alloc(), LAYERS, 5), 5);
     Ok(())
