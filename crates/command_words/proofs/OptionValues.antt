@@ -1,5 +1,5 @@
 -- A number that the command took for an option lies in that option's range.
-use Rattle.std.proofs.Common.{◌≡◌, ◌⊎◌, ◌∙◌, ◌<◌, ◌==◌, ◌&&◌, ap, ap₂, ℕ, Bool, true, false, not, List, [], ◌∷◌, length, map, is_some, Option, Some, None, refl, sym, subst, inl, inr, arith, codes, zero, suc}
+use Rattle.std.proofs.Common.{◌≡◌, ◌∙◌, ◌<◌, ◌&&◌, ap, ℕ, Bool, true, false, not, List, [], ◌∷◌, length, map, Option, Some, None, refl, sym, subst, inl, inr, arith, codes, zero, suc}
 use Rattle.std.specs.Prelude.{option_map, slice_get, IfSome}
 use Rattle.std.specs.List.{slice_index_or, All}
 use Rattle.std.specs.Str.{bytes_eq}
@@ -8,11 +8,11 @@ use Rattle.std.proofs.lemmas.Bool.{cases_lt, ne_eqb, true≢false}
 use Rattle.std.proofs.lemmas.List.{get_or-map, length-map}
 use Rattle.std.proofs.lemmas.List.Elements.{All-get_or}
 use Rattle.std.proofs.lemmas.Slice.Eq.{bytes_eq-Decides}
-use Rattle.clap.specs.Words.{App, Rule, Text, app_of, rule_of, args_of, groups_of, parser_of, Accepts, IsUnsignedIn, IsParsed, first_value, found_of, has_subcommand, matched_of}
+use Rattle.clap.specs.Words.{App, Rule, Text, app_of, rule_of, args_of, groups_of, Accepts, IsUnsignedIn, first_value, found_of, matched_of}
 use Rattle.clap.specs.declared.builder.command.Command.TheViews.{out-Command}
-use Rattle.clap.specs.Built.{IsAuto, IsParsedFrom, IsPlain, IsPlainArg, NamesNoGroup, SameRules}
+use Rattle.clap.specs.Built.{IsAuto, IsParsedFrom, IsPlain, IsPlainArg, SameRules}
 use Rattle.clap.specs.Walk.{is_empty, is_free_arg, is_simple_arg}
-use Rattle.clap.specs.Facts.{Entry, EntryPasses, PassesArg, parser_of_value}
+use Rattle.clap.specs.Facts.{EntryPasses, PassesArg, parser_of_value}
 use Rattle.clap.specs.declared.builder.arg.Arg.{Arg}
 use Rattle.clap.specs.declared.builder.command.Command.{Command}
 use Rattle.clap.specs.declared.builder.value_parser.ValueParser.{ValueParser}

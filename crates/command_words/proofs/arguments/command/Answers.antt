@@ -1,7 +1,7 @@
 use Rattle.std.proofs.Common.{◌≡◌, ◌∙◌, ap₂}
 use Rattle.std.proofs.lemmas.Result.{IfOk-weaker}
 use Rattle.clap.specs.Words.{app_of, with_rule}
-use Rattle.command_words.specs.Command.{bare_command, mode_rule, workers_rule, draw_rule, number_rule, pallet_command}
+use Rattle.command_words.specs.Command.{bare_command, mode_rule, workers_rule, draw_rule, pallet_command}
 use Rattle.command_words.proofs.arguments.command.Goals as goal
 
 pub returns : goal.returns
