@@ -1,6 +1,6 @@
 -- Each made order passes all tests of a row.
-use Rattle.std.proofs.Common.{◌≡◌, ◌∙◌, ℕ, zero, suc, ◌+◌, ◌*◌, ◌/◌, ◌<◌, ◌≤◌, Bool, true, false, List, [], ◌∷◌, ◌++◌, length, min, max, Option, Some, None, refl, sym, ap, subst, arith, codes}
-use Rattle.std.specs.Prelude.{decimal, find, nat_le, not, ◌&&◌, option_map, slice_index, if◌then◌else◌}
+use Rattle.std.proofs.Common.{◌≡◌, ◌∙◌, ℕ, zero, suc, ◌+◌, ◌*◌, ◌/◌, ◌<◌, ◌≤◌, true, List, [], ◌∷◌, ◌++◌, length, min, max, Some, None, refl, sym, ap, subst, arith}
+use Rattle.std.specs.Prelude.{decimal, find, nat_le, not, ◌&&◌, option_map}
 use Rattle.std.specs.List.{All, list_all}
 use Rattle.std.proofs.Math.Nat.{div-le_of_le-mul, mod-lt}
 use Rattle.std.proofs.lemmas.Nat.{mul-le}
@@ -12,12 +12,11 @@ use Rattle.std.proofs.lemmas.Bool.Decides.{nat_tests}
 use Rattle.order_reader.specs.declared.fields.Field.{Field}
 use Rattle.order_reader.specs.declared.fields.Field.TheVariants.{PalletX, PalletY, CaseX, CaseY, CaseZ, Weight, MaxHeight, MaxWeight, Contact, Support, Cut, Gap}
 use Rattle.order_reader.specs.declared.faults.RowFault.{RowFault}
-use Rattle.order_reader.specs.declared.faults.RowFault.TheVariants.{BadId, OutOfRange, DoesNotFit, TooManyCases}
+use Rattle.order_reader.specs.declared.faults.RowFault.TheVariants.{OutOfRange}
 use Rattle.order_reader.specs.declared.faults.OrderFail.{OrderFail}
 use Rattle.order_reader.specs.declared.faults.OrderFail.TheVariants.{Fault}
 use Rattle.order_reader.specs.Columns.{all_columns}
-use Rattle.order_reader.specs.Orders.{OrderValue, order_with, pallet_x_of, pallet_y_of, long_of, short_of, gap_of}
-use Rattle.order_reader.specs.declared.rows.Row.{Row}
+use Rattle.order_reader.specs.Orders.{OrderValue, order_with}
 use Rattle.order_reader.specs.declared.rows.Row.TheVariants as row
 use Rattle.order_reader.specs.Faults.{IsOrder, TellsFault, is_id, is_in_range, greatest_gap_of, range_fault, fits, is_small, order_fault}
 use Rattle.made_orders.specs.Draws.{next_state, state_after, given_by, drawn}

@@ -4,6 +4,7 @@ ghost use Rattle.made_orders.specs.Draws.{next_state, given_by};
 
 // Knuth's multiplier and increment for MMIX.
 const MULTIPLIER: u64 = 6364136223846793005;
+
 const INCREMENT: u64 = 1442695040888963407;
 
 // A linear congruential generator modulo 2^64.
@@ -21,10 +22,7 @@ impl Generator {
         ensures number { result ≡ given_by self.new.state below }
         ensures less { result < below }
     {
-        self.state = self
-            .state
-            .wrapping_mul(MULTIPLIER)
-            .wrapping_add(INCREMENT);
+        self.state = self.state.wrapping_mul(MULTIPLIER).wrapping_add(INCREMENT);
         (self.state >> 33) as u32 % below
     }
 }

@@ -23,8 +23,8 @@ loop-place-preserved c =
     c.in_ok-order.ensures.order ∙ ap (λ (s : ℕ). order_with (made_id (c.loop-place.place + 1)) (made_numbers s)) c.loop-place.invariant.state in
     record {
       state = c.in_ok-order.ensures.state ∙ ap (λ (s : ℕ). state_after s 6) c.loop-place.invariant.state
-      ∙ state_after-more c.args.number (6 * c.loop-place.place) 6 ∙ ap (state_after c.args.number) later;
+          ∙ state_after-more c.args.number (6 * c.loop-place.place) 6 ∙ ap (state_after c.args.number) later;
       rows = c.in_ok-push.ensures.items
-      ∙ ap₂ (λ (rows : List Row) (o : OrderValue). rows ++ row.Order o ∷ []) c.loop-place.invariant.rows order
-      ∙ sym (first_made_rows-more c.args.number c.loop-place.place);
+          ∙ ap₂ (λ (rows : List Row) (o : OrderValue). rows ++ row.Order o ∷ []) c.loop-place.invariant.rows order
+          ∙ sym (first_made_rows-more c.args.number c.loop-place.place);
     }
