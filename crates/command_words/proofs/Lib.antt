@@ -1,0 +1,2 @@
+mod OptionValues
+mod ModeFacts

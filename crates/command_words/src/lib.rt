@@ -1,0 +1,89 @@
+//! The words after the program's name, read as the command line of one simple `clap` command.
+#![tactic(auto)]
+
+mod arguments;
+mod modes;
+mod reading;
+
+pub use modes::Mode;
+pub use plan_memory::Memory;
+pub use reading::mode_of;
+
+#[cfg(test)]
+mod tests {
+    use crate::{Mode, mode_of};
+    use std::alloc::Global;
+    use std::test::Fail;
+
+    // What the words of a line ask for; an empty line has no words.
+    fn asked(alloc: Global, line: &str) -> Result<Option<Mode>, Fail> {
+        let mut words = Vec::new(alloc);
+        for word in line.split_whitespace() {
+            words.push(String::from_str(alloc, word)?)?;
+        }
+        Ok(mode_of(alloc, &words)?)
+    }
+
+    #[test]
+    fn accepted_words(rt: HostRuntime) -> Result<(), Fail> {
+        let lines = [
+            ("plan", Mode::Plan { draw: false }),
+            ("plan --draw", Mode::Plan { draw: true }),
+            ("--draw plan", Mode::Plan { draw: true }),
+            ("--draw -- plan", Mode::Plan { draw: true }),
+            ("check", Mode::Check { workers: 1 }),
+            ("check --workers 16", Mode::Check { workers: 16 }),
+            ("--workers=+4 check", Mode::Check { workers: 4 }),
+            ("check --workers 04", Mode::Check { workers: 4 }),
+            ("upgrade", Mode::Upgrade),
+            ("trial --number 1", Mode::Trial { number: 1 }),
+            ("trial --number=007", Mode::Trial { number: 7 }),
+            ("trial --number 1000000", Mode::Trial { number: 1_000_000 }),
+        ];
+        for (line, mode) in lines {
+            assert_eq!(rt; asked(rt.alloc(), line)?, Some(mode));
+        }
+        Ok(())
+    }
+
+    #[test]
+    fn refused_words(rt: HostRuntime) -> Result<(), Fail> {
+        let lines = [
+            "",
+            "draw",
+            "Plan",
+            "plan plan",
+            "plan --workers 2",
+            "plan --draw --draw",
+            "plan --draw=true",
+            "plan -d",
+            "plan --number 1",
+            "check --draw",
+            "check --workers",
+            "check --workers 0",
+            "check --workers 17",
+            "check --workers 2 --workers 2",
+            "check --workers -1",
+            "check --number 1",
+            "upgrade --draw",
+            "upgrade --workers 1",
+            "upgrade --number 1",
+            "trial",
+            "trial --number 0",
+            "trial --number 1000001",
+            "trial --number 1.5",
+            "trial --number 1 --workers 1",
+            "trial --number 1 --draw",
+            "help",
+            "--help",
+            "plan --help",
+            "plan -h",
+            "--version",
+            "plan -V",
+        ];
+        for line in lines {
+            assert_eq!(rt; asked(rt.alloc(), line)?, None);
+        }
+        Ok(())
+    }
+}

@@ -1,0 +1,45 @@
+// What the program can be asked to do, and which options stand with it.
+ghost use Rattle.std.specs.Prelude.{◌≡◌, ◌≤◌, IfSome, IsNone};
+ghost use Rattle.command_words.specs.Accepted.{mode_with, IsInRange};
+
+/// What the program can be asked to do.
+#[derive(Clone, Copy, PartialEq, Eq, Debug)]
+pub enum Mode {
+    /// Read orders and write a report of their layers; where `draw` says so, write drawings.
+    Plan { draw: bool },
+    /// Read a report and write a verdict for each entry, by 1 to 16 workers.
+    Check { workers: u32 },
+    /// Read a report of either form and write it in the newer one.
+    Upgrade,
+    /// Plan and check orders that are made from a number, 1 to 1,000,000.
+    Trial { number: u32 },
+}
+
+// The options that were given.
+#[derive(Clone, Copy, PartialEq, Eq, Debug)]
+pub struct Options {
+    pub workers: Option<u32>,
+    pub draw: bool,
+    pub number: Option<u32>,
+}
+
+// The mode of a word, where the options stand with it.
+#[tactic(auto, unfolding(crate::specs::Accepted::mode_with))]
+pub fn mode_for(word: &str, options: Options) -> Option<Mode>
+    ensures { result ≡ mode_with options word.now }
+{
+    let Options {
+        workers,
+        draw,
+        number,
+    } = options;
+    match word {
+        "plan" if workers.is_none() && number.is_none() => Some(Mode::Plan { draw }),
+        "check" if !draw && number.is_none() => Some(Mode::Check {
+            workers: workers.unwrap_or(1),
+        }),
+        "upgrade" if !draw && workers.is_none() && number.is_none() => Some(Mode::Upgrade),
+        "trial" if !draw && workers.is_none() => number.map(|number| Mode::Trial { number }),
+        _ => None,
+    }
+}
