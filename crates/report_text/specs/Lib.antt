@@ -1,0 +1,7 @@
+pub mod Sides
+pub mod Text
+pub mod Words
+pub mod HeadLines
+pub mod Lines
+pub mod Answers
+pub mod Reports
