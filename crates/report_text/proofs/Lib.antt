@@ -1,0 +1,5 @@
+pub mod Columns
+pub mod EntryWords
+pub mod OrderWords
+pub mod FaultWords
+pub mod EntryReaders

@@ -1,4 +1,5 @@
 pub mod Sides
+pub mod LineTexts
 pub mod Text
 pub mod Words
 pub mod HeadLines

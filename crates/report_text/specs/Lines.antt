@@ -9,7 +9,7 @@ use Rattle.listing_text.specs.Lines.{layers_at, answer_at}
 use Rattle.plan_entries.specs.declared.entries.Plan.{Plan}
 use Rattle.plan_entries.specs.declared.entries.Entry.{Entry}
 use Rattle.plan_entries.specs.declared.entries.Entry.TheVariants.{Planned, Refused}
-use Rattle.report_text.specs.Text.{end_line}
+use Rattle.report_text.specs.LineTexts.{end_line}
 use Rattle.report_text.specs.Words.{number_of_line, second_of}
 use Rattle.report_text.specs.HeadLines.{head_from}
 use Rattle.report_text.specs.declared.seconds.Second.{Second}

@@ -1,65 +1,13 @@
 -- The one spelling of each entry, in each form.
-use Rattle.std.specs.Prelude.{ℕ, List, [], ◌∷◌, ◌++◌, map, take, codes, decimal}
+use Rattle.std.specs.Prelude.{ℕ, List, [], ◌∷◌, ◌++◌}
 use Rattle.texts.specs.Lines.{spaced, text_of}
-use Rattle.plan_geometry.specs.declared.instances.Inst.{Inst}
-use Rattle.order_reader.specs.Columns.{column_name}
-use Rattle.order_reader.specs.Orders.{OrderValue}
-use Rattle.order_reader.specs.declared.faults.RowFault.{RowFault}
-use Rattle.order_reader.specs.declared.faults.RowFault.TheVariants.{FieldCount, BadId, BadNumber, OutOfRange, DoesNotFit, TooManyCases}
 use Rattle.cert_text.specs.declared.forms.Form.{Form}
-use Rattle.cert_text.specs.declared.forms.Form.TheVariants.{One, Two}
 use Rattle.cert_text.specs.Text.{cert_lines}
 use Rattle.listing_text.specs.Text.{layers_lines, answer_lines}
-use Rattle.plan_entries.specs.declared.entries.Status.{Status}
-use Rattle.plan_entries.specs.declared.entries.Status.TheVariants.{Optimal, StillOpen}
 use Rattle.plan_entries.specs.declared.entries.Plan.{Plan}
 use Rattle.plan_entries.specs.declared.entries.Entry.{Entry}
 use Rattle.plan_entries.specs.declared.entries.Entry.TheVariants.{Planned, Refused}
-
--- the line of an entry's number
-abbrev pub number_line : ℕ → List ℕ
-number_line n = spaced (codes "entry" ∷ decimal n ∷ [])
-
--- the id may have spaces
-abbrev pub id_line : List ℕ → List ℕ
-id_line id = codes "id " ++ id
-
--- a fault by its name, and by the column of the number at fault
-abbrev pub fault_words : RowFault → List (List ℕ)
-fault_words FieldCount = codes "refused" ∷ codes "FieldCount" ∷ []
-fault_words BadId = codes "refused" ∷ codes "BadId" ∷ []
-fault_words (BadNumber field) = codes "refused" ∷ codes "BadNumber" ∷ column_name field ∷ []
-fault_words (OutOfRange field) = codes "refused" ∷ codes "OutOfRange" ∷ column_name field ∷ []
-fault_words DoesNotFit = codes "refused" ∷ codes "DoesNotFit" ∷ []
-fault_words TooManyCases = codes "refused" ∷ codes "TooManyCases" ∷ []
-
-abbrev pub fault_line : RowFault → List ℕ
-fault_line fault = spaced (fault_words fault)
-
--- the numbers of an order in the order of the file; the first form has no gap
-abbrev pub numbers_written : Form → OrderValue → List ℕ
-numbers_written One o = take 11 o.numbers
-numbers_written Two o = o.numbers
-
-abbrev pub order_words : Form → OrderValue → List (List ℕ)
-order_words form o = codes "order" ∷ map decimal (numbers_written form o)
-
--- the four numbers of the instance that was planned
-abbrev pub reduced_words : Inst → List (List ℕ)
-reduced_words I = codes "reduced" ∷ decimal I.l_side ∷ decimal I.w_side ∷ decimal I.long ∷ decimal I.short ∷ []
-
-abbrev pub count_words : ℕ → List (List ℕ)
-count_words n = codes "count" ∷ decimal n ∷ []
-
-abbrev pub bound_words : ℕ → List (List ℕ)
-bound_words n = codes "bound" ∷ decimal n ∷ []
-
-abbrev pub status_line : Status → List ℕ
-status_line Optimal = codes "status optimal"
-status_line StillOpen = codes "status open"
-
-abbrev pub end_line : List ℕ
-end_line = codes "end"
+use Rattle.report_text.specs.LineTexts.{number_words, id_line, fault_line, order_words, reduced_words, count_words, bound_words, status_line, end_line}
 
 -- the lines of a plan behind that of its number
 abbrev pub plan_lines : Form → Plan → List (List ℕ)
@@ -73,8 +21,8 @@ plan_lines form p =
     ∷ (cert_lines p.cert ++ (layers_lines p.layers ++ (answer_lines (p.allowed, p.stack) ++ end_line ∷ [])))
 
 unfoldable pub entry_lines : Form → Entry → List (List ℕ)
-entry_lines form (Planned p) = number_line p.number ∷ plan_lines form p
-entry_lines form (Refused n fault) = number_line n ∷ fault_line fault ∷ end_line ∷ []
+entry_lines form (Planned p) = spaced (number_words p.number) ∷ plan_lines form p
+entry_lines form (Refused n fault) = spaced (number_words n) ∷ fault_line fault ∷ end_line ∷ []
 
 abbrev pub entry_text : Form → Entry → List ℕ
 entry_text form e = text_of (entry_lines form e)

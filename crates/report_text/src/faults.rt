@@ -55,7 +55,9 @@ fn has_column(form: Form, field: Field) -> bool
 fn column_named(form: Form, name: &[u8]) -> Option<Field>
     ensures { result ≡ column_of form name.now }
 {
-    let field = Field::named(name)?;
+    let Some(field) = Field::named(name) else {
+        return None;
+    };
     if has_column(form, field) {
         Some(field)
     } else {

@@ -1,4 +1,4 @@
-ghost use Rattle.std.specs.Prelude.{◌≡◌, ◌≤◌, ◌==◌, ◌&&◌, length};
+ghost use Rattle.std.specs.Prelude.{◌≡◌, ◌≤◌, ◌==◌, ◌&&◌, length, Some};
 ghost use Rattle.texts.specs.Gives.{GivesLine};
 ghost use Rattle.order_reader.specs.Orders.{order_with};
 ghost use Rattle.plan_entries.specs.Ranges.{has_orders_of};
@@ -44,19 +44,37 @@ fn numbers_written(alloc: Global, form: Form, line: &[u8]) -> Result<Vec<u32>, L
     }
 }
 
-// The twelve numbers of an order: in the first form the gap is 0.
+// The twelve numbers of an order from those that the form writes: in the first form the gap is 0.
+fn with_gap(form: Form, mut numbers: Vec<u32>) -> Result<Vec<u32>, LineStop>
+    ensures { GivesLine (λ v. v.items) result (Some (all_numbers form numbers.items)) }
+{
+    match form {
+        Form::One => {
+            numbers.push(0)?;
+            Ok(numbers)
+        }
+        Form::Two => Ok(numbers),
+    }
+}
+
+// Twelve numbers as an array.
+fn array_of(numbers: &[u32]) -> [u32; 12]
+    requires { length numbers.now ≡ 12 }
+    ensures { result ≡ numbers.now }
+{
+    let mut array = [0; 12];
+    array.copy_from_slice(numbers);
+    array
+}
+
+// The twelve numbers of the line of an order.
 #[tactic(auto, unfolding(crate::specs::Words::numbers_of_line))]
 fn numbers_line(alloc: Global, form: Form, line: &[u8]) -> Result<[u32; 12], LineStop>
     ensures { GivesLine (λ a. a) result (numbers_of_line form line.now) }
 {
-    let mut numbers = numbers_written(alloc, form, line)?;
-    if form == Form::One {
-        numbers.push(0)?;
-    }
-    match <[u32; 12]>::try_from(numbers) {
-        Ok(numbers) => Ok(numbers),
-        Err(_) => unreachable!(),
-    }
+    let written = numbers_written(alloc, form, line)?;
+    let numbers = with_gap(form, written)?;
+    Ok(array_of(numbers.as_slice()))
 }
 
 // Whether the form has the order.
