@@ -28,7 +28,7 @@ use Rattle.stack_builder.specs.declared.lists.StackAnswer.{StackAnswer}
 use Rattle.listing_text.specs.Ranges.{AreLayersInRange, IsAnswerInRange}
 use Rattle.listing_text.specs.Text.{layers_lines, answer_lines}
 use Rattle.listing_text.specs.Lines.{layers_at, answer_at}
-use Rattle.listing_text.proofs.LayerReaders.{layers_read}
+use Rattle.listing_text.proofs.LayerReaders.{few_layers, layers_read}
 use Rattle.listing_text.proofs.AnswerReaders.{answer_reads}
 use Rattle.plan_entries.specs.Entries.{number_of_entry}
 use Rattle.plan_entries.specs.Ranges.{most_entries, most_cases, is_within, order_in_range, layers_in_range, stack_in_range, numbers_in_range, plan_in_range, fault_in_range, entry_in_range, IsInRange}
@@ -201,3 +201,162 @@ head_reads form id is =
     (λ h f. tt))
     (λ h f. f.order))
     (λ h f. f) (λ h f. f) (λ h f. refl) (λ ls. refl)
+
+-- ---- a plan
+
+abbrev pub plan_head : Plan → PlanHead
+plan_head p = record { order = p.order; reduced = p.reduced; count = p.count; bound = p.bound; status = p.status }
+
+pub record PlanParts (form : Form) (p : Plan) : Type 0 where
+  pub number : IsWithin (most_entries form) p.number
+  pub count : IsWithin (most_cases form) p.count
+  pub bound : IsWithin (most_cases form) p.bound
+  pub allowed : leb p.allowed 10000 ≡ true
+  pub order : order_in_range form p.order ≡ true
+  pub cert : InRange form p.cert
+  pub layers : AreLayersInRange p.count p.layers
+  pub stack : stack_in_range p.order (length p.layers) p.stack ≡ true
+
+pub plan_parts : (form : Form) (p : Plan) → plan_in_range form p ≡ true → PlanParts form p
+plan_parts form p f =
+    let a = both_true (numbers_in_range form p) (order_in_range form p.order && (in_range form p.cert && (layers_in_range p.count p.layers && stack_in_range p.order (length p.layers) p.stack))) f in
+    let b = both_true (order_in_range form p.order) (in_range form p.cert && (layers_in_range p.count p.layers && stack_in_range p.order (length p.layers) p.stack)) a.1 in
+    let c = both_true (in_range form p.cert) (layers_in_range p.count p.layers && stack_in_range p.order (length p.layers) p.stack) b.1 in
+    let d = both_true (layers_in_range p.count p.layers) (stack_in_range p.order (length p.layers) p.stack) c.1 in
+    let n = both_true (is_within (most_entries form) p.number) (is_within (most_cases form) p.count && (is_within (most_cases form) p.bound && leb p.allowed 10000)) a.0 in
+    let m = both_true (is_within (most_cases form) p.count) (is_within (most_cases form) p.bound && leb p.allowed 10000) n.1 in
+    let k = both_true (is_within (most_cases form) p.bound) (leb p.allowed 10000) m.1 in
+    record { number = n.0; count = m.0; bound = k.0; allowed = k.1; order = b.0; cert = c.0; layers = d.0; stack = d.1 }
+
+pub plan_from_parts : (form : Form) (p : Plan) → PlanParts form p → plan_in_range form p ≡ true
+plan_from_parts form p f =
+    let a : numbers_in_range form p ≡ true = rw (f.number, f.count, f.bound, f.allowed) refl in
+    rw (a, f.order, f.cert, f.layers, f.stack) refl
+
+abbrev pub tail_lines : Plan → List (List ℕ)
+tail_lines p = cert_lines p.cert ++ (layers_lines p.layers ++ (answer_lines (p.allowed, p.stack) ++ end_line ∷ []))
+
+abbrev pub GoodPlan : Form → ℕ → List ℕ → Plan → Type 0
+GoodPlan form n id p = (plan_in_range form p ≡ true) × (p.number ≡ n) × (p.order.id ≡ id)
+
+plan_made : (form : Form) (n : ℕ) (id : List ℕ) (h : PlanHead) (c : Cert) (l : List Listed) (a : ℕ × StackAnswer) → IsWithin (most_entries form) n → GoodHead form id h → InRange form c → AreLayersInRange h.count l → IsAnswerInRange h.order (length l) a
+    → GoodPlan form n id (record { number = n; order = h.order; reduced = h.reduced; count = h.count; bound = h.bound; status = h.status; cert = c; layers = l; allowed = a.0; stack = a.1 })
+plan_made form n id h c l a hn hh hc hl ha =
+    let s = both_true (leb a.0 10000) (stack_in_range h.order (length l) a.1) ha in
+    (plan_from_parts form (record { number = n; order = h.order; reduced = h.reduced; count = h.count; bound = h.bound; status = h.status; cert = c; layers = l; allowed = a.0; stack = a.1 })
+    (record { number = hn; count = hh.count; bound = hh.bound; allowed = s.0; order = hh.order.0; cert = hc; layers = hl; stack = s.1 }), refl, hh.order.1)
+
+few_variants : (count : ℕ) (l : List Listed) → AreLayersInRange count l → length l ≤ 8
+few_variants = few_layers
+
+answer_good : (form : Form) (p : Plan) → PlanParts form p → IsAnswerInRange p.order (length p.layers) (p.allowed, p.stack)
+answer_good form p f = rw (f.allowed, f.stack) refl
+
+pub plan_reads : (form : Form) (n : ℕ) (id : List ℕ) → IsWithin (most_entries form) n → is_id id ≡ true → Reads (λ p. head_lines form (plan_head p) ++ tail_lines p) (GoodPlan form n id) (plan_from form n id)
+unfolding plan_from
+plan_reads form n id hn is =
+    reads_as (λ p. head_lines form (plan_head p) ++ tail_lines p) (λ p. head_lines form (plan_head p) ++ tail_lines p) (GoodPlan form n id) (GoodPlan form n id)
+    (λ ls. head_from form id ls >>= λ h. cert_at form h.1 >>= λ c. layers_at h.0.count c.1 >>= λ l. answer_at h.0.order (length l.0) l.1 >>= λ a. behind_line end_line a.1 >>= λ rest. Ok (record { number = n; order = h.0.order; reduced = h.0.reduced; count = h.0.count; bound = h.0.bound; status = h.0.status; cert = c.0; layers = l.0; allowed = a.0.0; stack = a.0.1 }, rest)) (plan_from form n id)
+    (reads_then (head_lines form) (GoodHead form id) (head_from form id) plan_head tail_lines (GoodPlan form n id)
+    (λ h ls. cert_at form ls >>= λ c. layers_at h.count c.1 >>= λ l. answer_at h.order (length l.0) l.1 >>= λ a. behind_line end_line a.1 >>= λ rest. Ok (record { number = n; order = h.order; reduced = h.reduced; count = h.count; bound = h.bound; status = h.status; cert = c.0; layers = l.0; allowed = a.0.0; stack = a.0.1 }, rest))
+    (head_reads form id is)
+    (λ h hh. reads_then cert_lines (InRange form) (cert_at form) (λ p. p.cert) (λ p. layers_lines p.layers ++ (answer_lines (p.allowed, p.stack) ++ end_line ∷ [])) (λ p. GoodPlan form n id p × (plan_head p ≡ h))
+    (λ c ls. layers_at h.count ls >>= λ l. answer_at h.order (length l.0) l.1 >>= λ a. behind_line end_line a.1 >>= λ rest. Ok (record { number = n; order = h.order; reduced = h.reduced; count = h.count; bound = h.bound; status = h.status; cert = c; layers = l.0; allowed = a.0.0; stack = a.0.1 }, rest))
+    (cert_reads form)
+    (λ c hc. reads_then layers_lines (AreLayersInRange h.count) (layers_at h.count) (λ p. p.layers) (λ p. answer_lines (p.allowed, p.stack) ++ end_line ∷ []) (λ p. (GoodPlan form n id p × (plan_head p ≡ h)) × (p.cert ≡ c))
+    (λ l ls. answer_at h.order (length l) ls >>= λ a. behind_line end_line a.1 >>= λ rest. Ok (record { number = n; order = h.order; reduced = h.reduced; count = h.count; bound = h.bound; status = h.status; cert = c; layers = l; allowed = a.0.0; stack = a.0.1 }, rest))
+    (layers_read h.count)
+    (λ l hl. reads_then answer_lines (IsAnswerInRange h.order (length l)) (answer_at h.order (length l)) (λ p. (p.allowed, p.stack)) (λ p. end_line ∷ []) (λ p. ((GoodPlan form n id p × (plan_head p ≡ h)) × (p.cert ≡ c)) × (p.layers ≡ l))
+    (λ a ls. behind_line end_line ls >>= λ rest. Ok (record { number = n; order = h.order; reduced = h.reduced; count = h.count; bound = h.bound; status = h.status; cert = c; layers = l; allowed = a.0; stack = a.1 }, rest))
+    (answer_reads h.order (length l) (few_variants h.count l hl))
+    (λ a ha. reads_line_alone end_line (λ p. (((GoodPlan form n id p × (plan_head p ≡ h)) × (p.cert ≡ c)) × (p.layers ≡ l)) × ((p.allowed, p.stack) ≡ a))
+    (record { number = n; order = h.order; reduced = h.reduced; count = h.count; bound = h.bound; status = h.status; cert = c; layers = l; allowed = a.0; stack = a.1 })
+    ((((plan_made form n id h c l a hn hh hc hl ha, refl), refl), refl), refl)
+    (λ p f. rw (← f.0.0.0.0.1, ← f.0.0.0.1, ← f.0.0.1, ← f.0.1, ← f.1) refl))
+    (λ p f. subst (λ (m : PlanHead). IsAnswerInRange m.order (length l) (p.allowed, p.stack)) f.0.0.1 (subst (λ (ls : List Listed). IsAnswerInRange p.order (length ls) (p.allowed, p.stack)) f.1 (answer_good form p (plan_parts form p f.0.0.0.0)))))
+    (λ p f. subst (λ (m : PlanHead). AreLayersInRange m.count p.layers) f.0.1 (plan_parts form p f.0.0.0).layers))
+    (λ p f. (plan_parts form p f.0.0).cert))
+    (λ p f. let q = plan_parts form p f.0 in record { order = (q.order, f.2); count = q.count; bound = q.bound }))
+    (λ p f. f) (λ p f. f) (λ p f. refl) (λ ls. refl)
+
+-- ---- an entry
+
+abbrev pub second_key : Entry → Second
+second_key (Planned p) = seconds.Id p.order.id
+second_key (Refused n fault) = seconds.Fault fault
+
+abbrev pub body_lines : Form → Entry → List (List ℕ)
+body_lines form (Planned p) = head_lines form (plan_head p) ++ tail_lines p
+body_lines form (Refused n fault) = end_line ∷ []
+
+abbrev IsEntryOf : Form → ℕ → Entry → Type 0
+IsEntryOf form n e = IsInRange form e × (number_of_entry e ≡ n)
+
+planned_is : (form : Form) (n : ℕ) (id : List ℕ) (e : Entry) → IsEntryOf form n e × (second_key e ≡ seconds.Id id) → (p : Plan) × (e ≡ Planned p) × GoodPlan form n id p
+planned_is form n id (Planned p) f = let e = f.1 in (p, refl, (f.0.0, f.0.1, cc))
+planned_is form n id (Refused m fault) f = let e = f.1 in absurd cc
+
+refused_is : (form : Form) (n : ℕ) (fault : RowFault) (e : Entry) → IsEntryOf form n e × (second_key e ≡ seconds.Fault fault) → e ≡ Refused n fault
+refused_is form n fault (Planned p) f = let e = f.1 in absurd cc
+refused_is form n fault (Refused m told) f =
+    let e = f.1 in
+    let same : told ≡ fault = cc in
+    ap (λ (k : ℕ). Refused k told) f.0.1 ∙ ap (λ (t : RowFault). Refused n t) same
+
+refused_lines : (form : Form) (n : ℕ) (fault : RowFault) (e : Entry) → IsEntryOf form n e × (second_key e ≡ seconds.Fault fault) → body_lines form e ≡ end_line ∷ []
+refused_lines form n fault e f = ap (body_lines form) (refused_is form n fault e f)
+
+refused_good : (form : Form) (n : ℕ) (fault : RowFault) → IsWithin (most_entries form) n → GoodFault form fault → IsInRange form (Refused n fault)
+refused_good form n fault hn hf = rw (hn, hf) refl
+
+body_reads : (form : Form) (n : ℕ) → IsWithin (most_entries form) n → (s : Second) → GoodSecond form s → Reads (body_lines form) (λ e. IsEntryOf form n e × (second_key e ≡ s)) (entry_of_second form n s)
+unfolding entry_of_second
+body_reads form n hn (seconds.Id id) hs =
+    reads_as (body_lines form) (body_lines form) (λ e. IsEntryOf form n e × (second_key e ≡ seconds.Id id)) (λ e. IsEntryOf form n e × (second_key e ≡ seconds.Id id))
+    (λ ls. plan_from form n id ls >>= λ p. Ok (Planned p.0, p.1)) (entry_of_second form n (seconds.Id id))
+    (reads_into (λ p. Planned p) (λ p. head_lines form (plan_head p) ++ tail_lines p) (GoodPlan form n id) (plan_from form n id) (body_lines form) (λ e. IsEntryOf form n e × (second_key e ≡ seconds.Id id))
+    (plan_reads form n id hn hs) (λ p f. refl) (λ p f. ((f.0, f.1), ap (λ (i : List ℕ). seconds.Id i) f.2)) (planned_is form n id))
+    (λ e f. f) (λ e f. f) (λ e f. refl) (λ ls. refl)
+body_reads form n hn (seconds.Fault fault) hs =
+    reads_as (λ e. end_line ∷ []) (body_lines form) (λ e. IsEntryOf form n e × (second_key e ≡ seconds.Fault fault)) (λ e. IsEntryOf form n e × (second_key e ≡ seconds.Fault fault))
+    (λ ls. behind_line end_line ls >>= λ rest. Ok (Refused n fault, rest)) (entry_of_second form n (seconds.Fault fault))
+    (reads_line_alone end_line (λ e. IsEntryOf form n e × (second_key e ≡ seconds.Fault fault)) (Refused n fault) ((refused_good form n fault hn hs, refl), refl) (refused_is form n fault))
+    (λ e f. f) (λ e f. f) (refused_lines form n fault) (λ ls. refl)
+
+good_second : (form : Form) (e : Entry) → IsInRange form e → GoodSecond form (second_key e)
+good_second form (Planned p) f = (passes p.order (has_order form p.order (plan_parts form p f).order).order).id
+good_second form (Refused n fault) f = (both_true (is_within (most_entries form) n) (fault_in_range form fault) f).1
+
+abbrev pub behind_number : Form → Entry → List (List ℕ)
+behind_number form e = second_line (second_key e) ∷ body_lines form e
+
+-- an entry whose number was read is read exactly
+pub behind_reads : (form : Form) (n : ℕ) → IsWithin (most_entries form) n → Reads (behind_number form) (IsEntryOf form n) (entry_behind form n)
+unfolding entry_behind
+behind_reads form n hn =
+    reads_as (behind_number form) (behind_number form) (IsEntryOf form n) (IsEntryOf form n)
+    (λ ls. first_by (second_of form) ls >>= λ s. entry_of_second form n s.0 s.1) (entry_behind form n)
+    (reads_then (λ s. second_line s ∷ []) (GoodSecond form) (first_by (second_of form)) second_key (body_lines form) (IsEntryOf form n) (entry_of_second form n)
+    (by_line second_line (GoodSecond form) (second_of form) (second_reads form) (seconds.Fault faults.FieldCount) refl)
+    (body_reads form n hn) (λ e f. good_second form e f.0))
+    (λ e f. f) (λ e f. f) (λ e f. refl) (λ ls. refl)
+
+pub number_good : (form : Form) (e : Entry) → IsInRange form e → IsWithin (most_entries form) (number_of_entry e)
+number_good form (Planned p) f = (plan_parts form p f).number
+number_good form (Refused n fault) f = (both_true (is_within (most_entries form) n) (fault_in_range form fault) f).0
+
+pub entry_split : (form : Form) (e : Entry) → entry_lines form e ≡ spaced (number_words (number_of_entry e)) ∷ behind_number form e
+unfolding entry_lines
+entry_split form (Planned p) = refl
+entry_split form (Refused n fault) = refl
+
+-- an entry is read exactly
+pub entry_reads : (form : Form) → Reads (entry_lines form) (IsInRange form) (entry_at form)
+unfolding entry_at
+entry_reads form =
+    reads_as (λ e. spaced (number_words (number_of_entry e)) ∷ behind_number form e) (entry_lines form) (IsInRange form) (IsInRange form)
+    (λ ls. first_by (number_of_line form) ls >>= λ n. entry_behind form n.0 n.1) (entry_at form)
+    (reads_then (λ n. spaced (number_words n) ∷ []) (IsWithin (most_entries form)) (first_by (number_of_line form)) number_of_entry (behind_number form) (IsInRange form) (entry_behind form)
+    (by_line (λ n. spaced (number_words n)) (IsWithin (most_entries form)) (number_of_line form) (named_reads (codes "entry") (most_entries form) (few_entries form) refl) 1 (one_entry form))
+    (λ n hn. behind_reads form n hn) (number_good form))
+    (λ e f. f) (λ e f. f) (λ e f. entry_split form e) (λ ls. refl)
