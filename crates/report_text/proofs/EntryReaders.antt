@@ -1,5 +1,5 @@
 -- An entry is read exactly, line by line.
-use Rattle.std.proofs.Common.{◌≡◌, ℕ, suc, ◌≤◌, ◌+◌, List, [], ◌∷◌, ◌++◌, length, Option, Some, None, Result, Ok, Err, refl, sym, ap, subst, ◌∙◌, append_assoc, arith, Bool, true, false, leb, cond}
+use Rattle.std.proofs.Common.{◌≡◌, ℕ, suc, ◌≤◌, ◌+◌, List, [], ◌∷◌, ◌++◌, length, Option, Some, None, Result, Ok, Err, refl, sym, ap, subst, ◌∙◌, append_assoc, arith, Bool, true, false, leb, cond, inl, inr}
 use Rattle.std.specs.Prelude.{◌&&◌, codes}
 use Rattle.std.specs.Str.{bytes_eq}
 use Rattle.std.specs.List.{AllByRecursion}
@@ -19,7 +19,8 @@ use Rattle.cert_text.specs.declared.forms.Form.{Form}
 use Rattle.cert_text.specs.declared.forms.Form.TheVariants.{One, Two}
 use Rattle.weightings.specs.declared.certs.Cert.{Cert}
 use Rattle.plan_geometry.specs.declared.instances.Inst.{Inst}
-use Rattle.order_reader.specs.Faults.{is_id}
+use Rattle.order_reader.specs.Columns.{all_columns}
+use Rattle.order_reader.specs.Faults.{is_id, fits, is_small}
 use Rattle.order_reader.specs.Orders.{OrderValue}
 use Rattle.order_reader.specs.declared.faults.RowFault.{RowFault}
 use Rattle.order_reader.specs.declared.faults.RowFault.TheVariants as faults
@@ -80,18 +81,22 @@ reads_line_alone {B} line Fits b fits one =
 
 -- ---- the values of one kind as those of another
 
+-- a reading as one of the other kind
+abbrev pub carried : {S A B : Type 0} → (A → B) → A × List S → Reading S B
+carried into x = Ok (into x.0, x.1)
+
 module _ {S A B : Type 0} (into : A → B) (la : A → List S) (Fa : A → Type 0) (ra : List S → Reading S A) (lb : B → List S) (Fb : B → Type 0)
     (P : Reads la Fa ra) (same : (a : A) → Fa a → lb (into a) ≡ la a) (made : (a : A) → Fa a → Fb (into a)) (from : (b : B) → Fb b → (a : A) × (b ≡ into a) × Fa a) where
-  into_again : (b : B) (rest : List S) → Fb b → (ra (lb b ++ rest) >>= λ x. Ok (into x.0, x.1)) ≡ Ok (b, rest)
+  into_again : (b : B) (rest : List S) → Fb b → (ra (lb b ++ rest) >>= carried into) ≡ Ok (b, rest)
   into_again b rest f =
       let o = from b f in
       let texts : lb b ≡ la o.0 = ap lb o.1 ∙ same o.0 o.2 in
       let read : ra (lb b ++ rest) ≡ Ok (o.0, rest) = ap (λ (t : List S). ra (t ++ rest)) texts ∙ P.again o.0 rest o.2 in
-      ap (λ (r : Reading S A). r >>= λ x. Ok (into x.0, x.1)) read ∙ ap (λ (c : B). Ok (c, rest)) (sym o.1)
+      ap (λ (r : Reading S A). r >>= carried into) read ∙ ap (λ (c : B). Ok (c, rest)) (sym o.1)
 
-  into_takes : (xs : List S) (b : B) (rest : List S) → (ra xs >>= λ x. Ok (into x.0, x.1)) ≡ Ok (b, rest) → Fb b × (xs ≡ lb b ++ rest)
+  into_takes : (xs : List S) (b : B) (rest : List S) → (ra xs >>= carried into) ≡ Ok (b, rest) → Fb b × (xs ≡ lb b ++ rest)
   into_takes xs b rest e =
-      let s = bind_ok (ra xs) (λ x. Ok (into x.0, x.1)) (b, rest) e in
+      let s = bind_ok (ra xs) (carried into) (b, rest) e in
       let pair = ok_is (into s.0.0, s.0.1) (b, rest) s.2 in
       let p = P.takes xs s.0.0 s.0.1 s.1 in
       let same_b : into s.0.0 ≡ b = ap (λ (q : B × List S). q.0) pair in
@@ -110,9 +115,9 @@ module _ {S A B : Type 0} (into : A → B) (la : A → List S) (Fa : A → Type 
   into_ends front [] none = tt
   into_ends front (x ∷ rest) none = λ h. none (from_begun (front ++ x ∷ []) h)
 
-  into_stops : (xs : List S) (left : ℕ) → (ra xs >>= λ x. Ok (into x.0, x.1)) ≡ Err left → StopsAt lb Fb xs left
+  into_stops : (xs : List S) (left : ℕ) → (ra xs >>= carried into) ≡ Err left → StopsAt lb Fb xs left
   into_stops xs left e =
-      elim (bind_err (ra xs) (λ x. Ok (into x.0, x.1)) left e) [
+      elim (bind_err (ra xs) (carried into) left e) [
         | inl one ↦
             let s = P.stops xs left one in
             record {
@@ -121,13 +126,10 @@ module _ {S A B : Type 0} (into : A → B) (la : A → List S) (Fa : A → Type 
               left_is = s.left_is;
               stops = record { parts = s.stops.parts; begun = into_begun s.front s.stops.begun; ends = into_ends s.front s.rest s.stops.ends };
             }
-        | inr two ↦ absurd (no_err (into two.0.0, two.0.1) left two.2)
+        | inr two ↦ absurd (let h = two.2 in cc)
       ]
-    where
-      no_err : (x : B × List S) (n : ℕ) → Ok x ≡ Err n → ⊥
-      no_err x n h = absurd cc
 
-  pub reads_into : Reads lb Fb (λ xs. ra xs >>= λ x. Ok (into x.0, x.1))
+  pub reads_into : Reads lb Fb (λ xs. ra xs >>= carried into)
   reads_into = record { some = into P.some; some_fits = made P.some P.some_fits; again = into_again; takes = into_takes; stops = into_stops }
 
 -- ---- the first lines of a plan
@@ -152,6 +154,7 @@ unit_inst : Inst
 unit_inst = record { l_side = 1; w_side = 1; long = 1; short = 1; sides = record { short_min = omega arith; ordered = omega arith; long_max = omega arith; l_min = omega arith; l_max = omega arith; w_min = omega arith; w_max = omega arith } }
 
 unit_fits : (form : Form) (id : List ℕ) → is_id id ≡ true → IsOrderOf form id (unit_order id)
+unfolding all_columns fits is_small
 unit_fits One id f = (rw f refl, refl)
 unit_fits Two id f = (rw f refl, refl)
 
@@ -249,7 +252,7 @@ plan_made form n id h c l a hn hh hc hl ha =
 few_variants : (count : ℕ) (l : List Listed) → AreLayersInRange count l → length l ≤ 8
 few_variants = few_layers
 
-answer_good : (form : Form) (p : Plan) → PlanParts form p → IsAnswerInRange p.order (length p.layers) (p.allowed, p.stack)
+pub answer_good : (form : Form) (p : Plan) → PlanParts form p → IsAnswerInRange p.order (length p.layers) (p.allowed, p.stack)
 answer_good form p f = rw (f.allowed, f.stack) refl
 
 pub plan_reads : (form : Form) (n : ℕ) (id : List ℕ) → IsWithin (most_entries form) n → is_id id ≡ true → Reads (λ p. head_lines form (plan_head p) ++ tail_lines p) (GoodPlan form n id) (plan_from form n id)
@@ -360,3 +363,8 @@ entry_reads form =
     (by_line (λ n. spaced (number_words n)) (IsWithin (most_entries form)) (number_of_line form) (named_reads (codes "entry") (most_entries form) (few_entries form) refl) 1 (one_entry form))
     (λ n hn. behind_reads form n hn) (number_good form))
     (λ e f. f) (λ e f. f) (λ e f. entry_split form e) (λ ls. refl)
+
+-- ---- what a reader of a part knows
+
+pub layers_few : (count : ℕ) (ls : List (List ℕ)) (l : List Listed) (rest : List (List ℕ)) → layers_at count ls ≡ Ok (l, rest) → length l ≤ 8
+layers_few count ls l rest e = few_layers count l ((layers_read count).takes ls l rest e).0

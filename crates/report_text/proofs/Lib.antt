@@ -3,3 +3,4 @@ pub mod EntryWords
 pub mod OrderWords
 pub mod FaultWords
 pub mod EntryReaders
+pub mod EntryBytes
