@@ -292,7 +292,7 @@ abbrev pub body_lines : Form → Entry → List (List ℕ)
 body_lines form (Planned p) = head_lines form (plan_head p) ++ tail_lines p
 body_lines form (Refused n fault) = end_line ∷ []
 
-abbrev IsEntryOf : Form → ℕ → Entry → Type 0
+abbrev pub IsEntryOf : Form → ℕ → Entry → Type 0
 IsEntryOf form n e = IsInRange form e × (number_of_entry e ≡ n)
 
 planned_is : (form : Form) (n : ℕ) (id : List ℕ) (e : Entry) → IsEntryOf form n e × (second_key e ≡ seconds.Id id) → (p : Plan) × (e ≡ Planned p) × GoodPlan form n id p

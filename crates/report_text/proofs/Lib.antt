@@ -4,3 +4,5 @@ pub mod OrderWords
 pub mod FaultWords
 pub mod EntryReaders
 pub mod EntryBytes
+pub mod NextLines
+pub mod ReportReaders

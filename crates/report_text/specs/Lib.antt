@@ -6,3 +6,5 @@ pub mod HeadLines
 pub mod Lines
 pub mod Answers
 pub mod Reports
+pub mod NextWords
+pub mod ReportLines

@@ -4,6 +4,7 @@
 mod entries;
 mod faults;
 mod heads;
+mod nexts;
 mod numbers;
 mod orders;
 mod seconds;
