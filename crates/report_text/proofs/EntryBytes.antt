@@ -1,5 +1,5 @@
 -- What reading an entry says of the bytes.
-use Rattle.std.proofs.Common.{◌≡◌, ℕ, suc, ◌≤◌, ◌+◌, ◌*◌, List, [], ◌∷◌, ◌++◌, length, Ok, Err, refl, sym, ap, arith, Bool, true, false, leb, eqb, inl, inr}
+use Rattle.std.proofs.Common.{◌≡◌, ℕ, suc, ◌≤◌, ◌+◌, ◌*◌, List, [], ◌∷◌, ◌++◌, length, Ok, Err, refl, sym, ap, ◌∙◌, arith, Bool, true, false, leb, eqb, inl, inr}
 use Rattle.std.specs.Prelude.{◌&&◌, codes}
 use Rattle.std.specs.List.{list_all, AllByRecursion}
 use Rattle.std.proofs.lemmas.Bool.{cases_Bool, leb-true, eqb-true}
@@ -7,7 +7,8 @@ use Rattle.std.proofs.lemmas.List.{length-append}
 use Rattle.texts.specs.Lines.{spaced, text_of, whole_lines, unfinished}
 use Rattle.texts.proofs.LineEnds.{IsPlain}
 use Rattle.texts.proofs.Parsers.{both_true, plain_spaced}
-use Rattle.texts.proofs.Bytes.{Got, got, same_value, no_fault, Stopped, stopped}
+use Rattle.texts.specs.Spelling.{HasOneSpelling}
+use Rattle.texts.proofs.Bytes.{Got, got, same_value, no_fault, Stopped, stopped, has_one_spelling}
 use Rattle.cert_text.proofs.CertReaders.{cert_plain, few_lines as few_cert_lines}
 use Rattle.cert_text.specs.Text.{cert_lines}
 use Rattle.cert_text.specs.declared.forms.Form.{Form}
@@ -120,3 +121,12 @@ no_entry_fault form = no_fault (entry_lines form) (IsInRange form) (entry_at for
 
 pub entry_stopped : (form : Form) (bytes : List ℕ) (left : ℕ) → entry_at form (whole_lines bytes) ≡ Err left → Stopped (entry_lines form) (IsInRange form) (entry_at form) (entry_reads form) (entry_plain form) bytes 120300 left
 entry_stopped form bytes left e = stopped (entry_lines form) (IsInRange form) (entry_at form) (entry_reads form) (entry_plain form) bytes 120300 left (few_entry_lines form) e
+
+pub entries_one_spelling : (form : Form) → HasOneSpelling (entry_lines form) (IsInRange form)
+entries_one_spelling form = has_one_spelling (entry_lines form) (IsInRange form) (entry_at form) (entry_reads form) (entry_plain form)
+
+-- the entry that was read is the one in front, and so is what stands behind it
+pub this_entry : (form : Form) (bytes rest behind : List ℕ) (d e : Entry) → entry_at form (whole_lines bytes) ≡ Ok (d, whole_lines rest) → unfinished rest ≡ unfinished bytes → IsInRange form e → bytes ≡ entry_text form e ++ behind → (d ≡ e) × (rest ≡ behind)
+this_entry form bytes rest behind d e read u fits parts =
+    let g = got_entry form bytes rest d read u in
+    entries_one_spelling form d e rest behind g.fits fits (sym g.parts ∙ parts)

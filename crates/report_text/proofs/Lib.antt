@@ -6,3 +6,5 @@ pub mod EntryReaders
 pub mod EntryBytes
 pub mod NextLines
 pub mod ReportReaders
+pub mod ReportLoop
+pub mod ReportBytes

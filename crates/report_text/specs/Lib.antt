@@ -8,3 +8,5 @@ pub mod Answers
 pub mod Reports
 pub mod NextWords
 pub mod ReportLines
+pub mod Cursors
+pub mod ReportAnswers

@@ -1,14 +1,21 @@
 //! Reports as text, entry by entry, and the reading of such texts.
 #![tactic(auto)]
 
+mod cursors;
 mod entries;
 mod faults;
 mod heads;
 mod nexts;
 mod numbers;
 mod orders;
+mod puts;
+mod reports;
 mod seconds;
 
 pub use cert_text::Form;
 pub use entries::{EntryFault, entry_from, get_entry};
+pub use cursors::Entries;
+pub use puts::{PutStop, put_entry};
+pub use reports::{ReportFault, check_text};
+pub use plan_memory::Memory;
 pub use plan_entries::{Entry, Layers, Listed, Plan, Spots, Status, is_in_range};
