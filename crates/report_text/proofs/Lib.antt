@@ -4,7 +4,9 @@ pub mod OrderWords
 pub mod FaultWords
 pub mod EntryReaders
 pub mod EntryBytes
+pub mod EntryPieces
 pub mod NextLines
 pub mod ReportReaders
 pub mod ReportLoop
 pub mod ReportBytes
+pub mod OldForm

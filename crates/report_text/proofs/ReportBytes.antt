@@ -5,10 +5,10 @@ use Rattle.std.proofs.lemmas.List.{append-nil, length-append, nil_from_length}
 use Rattle.std.proofs.lemmas.List.Concat.{flat_map-cons, flat_map-append}
 use Rattle.texts.specs.Lines.{ended, text_of, whole_lines, unfinished}
 use Rattle.texts.specs.Grammar.{Begins, NoneGoesOn, Reads, Reading, ◌>>=◌, first_by}
-use Rattle.texts.specs.Spelling.{FaultsAt}
+use Rattle.texts.specs.Spelling.{FaultsAt, HasOneSpelling}
 use Rattle.texts.proofs.LineEnds.{IsPlain, whole_text, unfinished_text, whole_is, taken_is}
 use Rattle.texts.proofs.Readers.{bind_ok, bind_err, ok_is, one_spelling}
-use Rattle.texts.proofs.Bytes.{Got, got, got_again, same_value, no_fault, Stopped, stopped}
+use Rattle.texts.proofs.Bytes.{Got, got, got_again, same_value, no_fault, Stopped, stopped, has_one_spelling}
 use Rattle.cert_text.specs.declared.forms.Form.{Form}
 use Rattle.plan_entries.specs.Entries.{number_of_entry}
 use Rattle.plan_entries.specs.Ranges.{most_entries, IsInRange}
@@ -243,3 +243,6 @@ pub report_only : (bytes : List ℕ) (form other : Form) (es others : List Entry
 report_only bytes form other es others r read f e fits text =
     let same = (same_report bytes [] other others (record { form = form; entries = es }) fits text read).0 in
     (f ∙ ap (λ (x : Report). x.form) same, e ∙ ap (λ (x : Report). x.entries) same)
+
+pub reports_one_spelling : HasOneSpelling report_lines IsReport
+reports_one_spelling = has_one_spelling report_lines IsReport report_at report_reads report_plain
