@@ -26,3 +26,6 @@ pub use plan_entries::{Entry, Layers, Listed, Plan, Spots, Status, is_in_range};
 pub use plan_memory::Memory;
 pub use puts::{PutStop, put_entry};
 pub use reports::{ReportFault, check_text};
+
+#[cfg(test)]
+mod tests;
