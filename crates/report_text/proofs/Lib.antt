@@ -10,3 +10,4 @@ pub mod ReportReaders
 pub mod ReportLoop
 pub mod ReportBytes
 pub mod OldForm
+pub mod TextLengths

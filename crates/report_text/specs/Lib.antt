@@ -10,3 +10,4 @@ pub mod NextWords
 pub mod ReportLines
 pub mod Cursors
 pub mod ReportAnswers
+pub mod Lengths
