@@ -1,0 +1,13 @@
+pub mod Sides
+pub mod LineTexts
+pub mod Text
+pub mod Words
+pub mod HeadLines
+pub mod Lines
+pub mod Answers
+pub mod Reports
+pub mod NextWords
+pub mod ReportLines
+pub mod Cursors
+pub mod ReportAnswers
+pub mod Lengths
