@@ -1,6 +1,6 @@
 -- The letter of the case that covers a cell, where the cases are seen from some number on.
 use Rattle.std.proofs.Common.{◌≡◌, ℕ, zero, suc, ◌+◌, ◌<◌, List, [], ◌∷◌, length, drop, Option, Some, None, refl, sym, ap, ◌∙◌, arith, Bool, true, false, cond, ltb, inl, inr, one-add}
-use Rattle.std.specs.Prelude.{option_map, not}
+use Rattle.std.specs.Prelude.{option_map}
 use Rattle.std.specs.List.{position, position_or_len, slice_get}
 use Rattle.std.proofs.lemmas.Bool.{cases_Bool, ltb-true, ltb-false, le-ltb, lt-ltb}
 use Rattle.plan_geometry.specs.declared.spots.Spot.{Spot}
@@ -22,7 +22,7 @@ position-cons p x xs = elim (cases_Bool (p x)) [
         let l = ltb-false (position_or_len p xs) (length xs) ge in
         let more : ltb (suc (position_or_len p xs)) (suc (length xs)) ≡ false = le-ltb (suc (position_or_len p xs)) (suc (length xs)) (omega arith) in
         rw (more, ge) refl
-    ])
+  ])
 ]
 
 -- the character of a cell by these cases, which are numbered from k on

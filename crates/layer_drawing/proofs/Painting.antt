@@ -4,7 +4,7 @@ use Rattle.std.specs.Prelude.{◌&&◌, ◌||◌}
 use Rattle.std.proofs.Math.ListN.{set}
 use Rattle.std.proofs.lemmas.Bool.{cases_Bool, cases_lt, eqb-true, ne_eqb, ltb-true, ltb-false, leb-true, leb-false, le-leb, lt-leb, le-ltb, lt-ltb}
 use Rattle.std.proofs.lemmas.List.{get_or-set_same, get_or-set_other}
-use Rattle.std.proofs.lemmas.Nat.{mul-le, mul-add-lt}
+use Rattle.std.proofs.lemmas.Nat.{mul-le}
 
 -- a place from one on and before another
 abbrev pub between : ℕ → ℕ → ℕ → Bool
@@ -44,7 +44,7 @@ one_more a b i le = elim (cases_Bool (eqb i b)) [
         let le2 = ltb-false i b beyond in
         let far : b + 1 ≤ i = le_from le2 other in
         not_beyond a b i le2 ∙ sym (not_beyond a (b + 1) i far)
-    ])
+  ])
 ]
   where
     le_from : b ≤ i → eqb i b ≡ false → b + 1 ≤ i
@@ -93,7 +93,7 @@ row_place w y j x a b lt le room = elim (cases_lt j y) [
         let low : leb (y * w + a) (j * w + x) ≡ leb a x = rw same (same_le (y * w) a x) in
         let high : ltb (j * w + x) (y * w + b) ≡ ltb x b = rw same (same_lt (y * w) x b) in
         rw (low, high, here) (and_true (between a b x))
-    ]
+  ]
 ]
   where
     and_true : (t : Bool) → t ≡ (t && true)

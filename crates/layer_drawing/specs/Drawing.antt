@@ -1,5 +1,5 @@
 -- The drawing of a layer: a character for each cell of its pallet.
-use Rattle.std.specs.Prelude.{ℕ, zero, suc, ◌+◌, ◌*◌, ◌%◌, nat_le, nat_lt, Bool, ◌&&◌, List, [], ◌∷◌, map, Option, Some, None, if◌then◌else◌, codes, decimal, slice_index}
+use Rattle.std.specs.Prelude.{ℕ, zero, suc, ◌*◌, ◌%◌, nat_le, nat_lt, Bool, ◌&&◌, List, [], ◌∷◌, map, Option, Some, None, if◌then◌else◌, codes, decimal, slice_index}
 use Rattle.std.specs.List.{position, range_with_len}
 use Rattle.texts.specs.Lines.{spaced, text_of}
 use Rattle.plan_geometry.specs.declared.spots.Spot.{Spot}
@@ -43,9 +43,9 @@ head_words I = codes "drawing" ∷ decimal I.l_side ∷ decimal I.w_side ∷ []
 -- the sides and the rows, or none where the pallet has more than 40,000 cells
 unfoldable pub drawing_lines : Inst → List Spot → List (List ℕ)
 drawing_lines I spots =
-  if nat_lt 40000 (I.l_side * I.w_side)
-  then codes "drawing none" ∷ []
-  else spaced (head_words I) ∷ rows_below I spots I.w_side
+    if nat_lt 40000 (I.l_side * I.w_side)
+    then codes "drawing none" ∷ []
+    else spaced (head_words I) ∷ rows_below I spots I.w_side
 
 abbrev pub drawing_text : Inst → List Spot → List ℕ
 drawing_text I spots = text_of (drawing_lines I spots)
