@@ -1,0 +1,4 @@
+pub mod Ells
+pub mod Cuts
+pub mod States
+pub mod Laws
