@@ -16,7 +16,7 @@ use Rattle.block_tree.specs.declared.regions.Region.{Region}
 use Rattle.block_tree.specs.Regions.{rectangle}
 use Rattle.block_tables.specs.Numbers.{IsSum}
 use Rattle.l_patterns.specs.declared.sides.Sides.{Sides}
-use Rattle.l_patterns.specs.Ells.{Reach, root, first_part, second_part, HasMore}
+use Rattle.l_patterns.specs.Ells.{Reach, root, first_part, second_part, HasMore, AreFewChoices}
 use Rattle.l_patterns.specs.Cuts.{AreSidesOf, Fits}
 use Rattle.l_patterns.proofs.EllLemmas.{sum-of, region-is}
 use Rattle.l_patterns.proofs.PartLemmas.{fits-written, fits-first, fits-second}
@@ -113,3 +113,14 @@ module _ (q : Sides) (g : AreSidesOf q) where
       let long = length-le_from_distinct_below codes (columns * rows * columns * rows) (IsDistinct-from_AllPairs Decides-eqb codes (codes-apart h.members f h.different))
         (λ v y. let a = Any-from_list_any (λ x. v == x) codes y in omega (arith, below a.0 a.1 a.2, a.3, eqb-true v a.1 a.4)) in
       omega (arith, long, length-map h.members code, h.count)
+
+-- ---- where there are few enough choices the search ends
+
+pub by-cases : (A : Type 0) (b : Bool) → (b ≡ false → A) → (A → ⊥) → b ≡ true
+by-cases A true h never = refl
+by-cases A false h never = absurd (never (h refl))
+
+pub never-more : (q : Sides) → AreSidesOf q → (n : ℕ) → AreFewChoices q.x.points.now q.y.points.now n → HasMore q.inst n → ⊥
+never-more q g n w h = let f = few q g n h in let e = regroup (length q.x.points.now) (length q.y.points.now) in absurd (omega (arith, f, w, e)) where
+  regroup : (a b : ℕ) → a * b * a * b ≡ a * b * (a * b)
+  regroup a b = omega arith

@@ -8,13 +8,14 @@ use Rattle.l_patterns.specs.declared.knowledge.Key.{Key}
 use Rattle.l_patterns.specs.declared.knowledge.Known.{Known}
 use Rattle.l_patterns.specs.declared.knowledge.Built.{Built}
 use Rattle.l_patterns.specs.declared.knowledge.Search.{Search}
+use Rattle.l_patterns.specs.declared.trying.Frame.{Frame}
 use Rattle.block_tree.specs.Regions.{is_rectangle, side_x, side_y, rectangle}
 use Rattle.block_tree.specs.Trees.{uniform}
 use Rattle.block_tables.specs.Numbers.{RoundsTo, Greatest}
 use Rattle.block_tables.proofs.EntryLemmas.{down-one}
 use Rattle.l_patterns.specs.Ells.{EllAll, Reach, root, written, IsGreatestEll, IsAtLeastUniform}
 use Rattle.l_patterns.specs.Cuts.{AreSidesOf, Fits}
-use Rattle.l_patterns.specs.States.{base, AreBounds, Stands, IsBuilt, IsRemembered, nth_built, region_of, IsSearch, IsFrame, IsRoot, IsKnown}
+use Rattle.l_patterns.specs.States.{base, AreBounds, Stands, IsBuilt, IsRemembered, nth_built, region_of, Tried, IsSearch, IsFrame, IsGo, IsRoot, IsKnown}
 use Rattle.l_patterns.proofs.MemoLemmas.{stands-reaches}
 use Rattle.l_patterns.proofs.PartLemmas.{base-is}
 use Rattle.l_patterns.proofs.EllLemmas.{rectangle-is}
@@ -69,3 +70,13 @@ at-least-uniform q r t k w = λ a b u v.
     let e : base q.inst r ≡ uniform q.inst a b =
       ap (base q.inst) t.is ∙ (base-is q.inst (rectangle t.a t.b) (rectangle-is t.a t.b) ∙ rw (same-side_x t.a t.b, same-side_y t.a t.b, ea, eb) refl) in
     omega (arith, e, w.from)
+
+-- ---- the pending regions
+
+-- a region that waits goes on at its next cut
+pub waiting : (q : Sides) (f : Frame) (at : ℕ) → IsFrame q f → Tried q f.region f.need at → IsFrame q (record { region = f.region; need = f.need; at = at })
+waiting q f at h t = record { fits = h.fits; reach = h.reach; some = h.some; above = h.above; tried = t }
+
+-- a part of which more must be known starts at its first cut
+pub due : (q : Sides) (r p : Region) (need : ℕ) → IsGo q r p need → IsFrame q (record { region = p; need = need; at = 0 })
+due q r p need h = record { fits = h.fits; reach = h.reach; some = h.some; above = h.above; tried = λ j v cut n. absurd (omega (arith, v)) }

@@ -1,7 +1,8 @@
 -- The tree of what was built.
-use Rattle.std.proofs.Common.{◌≡◌, ℕ, Bool, true, false, ◌⊎◌, ◌+◌, ◌-◌, ◌≤◌, ◌<◌, List, [], ◌∷◌, Option, Some, None, length, refl, ap, ap₂, sym, ◌∙◌, subst, arith, inl, inr}
+use Rattle.std.proofs.Common.{◌≡◌, ℕ, Bool, true, false, ◌⊎◌, ◌+◌, ◌-◌, ◌≤◌, ◌<◌, List, [], ◌∷◌, Option, Some, None, length, slice_index_or, refl, ap, ap₂, sym, ◌∙◌, subst, arith, inl, inr}
 use Rattle.std.specs.Option.{option_map_or}
 use Rattle.std.proofs.lemmas.Bool.{eq-eqb}
+use Rattle.std.proofs.lemmas.List.{get_or_default}
 use Rattle.plan_geometry.specs.declared.instances.Inst.{Inst}
 use Rattle.plan_geometry.specs.declared.spots.Way.{Way}
 use Rattle.plan_geometry.specs.Layout.{IsLawfulWay}
@@ -10,7 +11,7 @@ use Rattle.block_tree.specs.declared.regions.Cut.{Cut}
 use Rattle.block_tree.specs.declared.regions.Cut.TheVariants.{K1, K2, K3, K4}
 use Rattle.block_tree.specs.declared.nodes.Node.{Node}
 use Rattle.block_tree.specs.declared.nodes.Block.TheVariants as block
-use Rattle.block_tree.specs.Regions.{IsOrdered, is_rectangle, side_x, side_y, rectangle}
+use Rattle.block_tree.specs.Regions.{region as region', IsOrdered, is_rectangle, side_x, side_y, rectangle}
 use Rattle.block_tree.specs.Parts.{ell_parts}
 use Rattle.block_tree.specs.Trees.{uniform, grid_cases, held_count, IsLawful, AreLawful, IsTree}
 use Rattle.block_tree.proofs.RowLemmas.{held-ell, ell-lawful}
@@ -19,7 +20,7 @@ use Rattle.l_patterns.specs.declared.knowledge.Built.{Built}
 use Rattle.l_patterns.specs.declared.knowledge.Held.{Held}
 use Rattle.l_patterns.specs.Ells.{IsSplit, written}
 use Rattle.l_patterns.specs.Cuts.{Fits}
-use Rattle.l_patterns.specs.States.{base, nth_built, Stands, AreParts, IsBuilt, AreBuilt, Makes}
+use Rattle.l_patterns.specs.States.{base, none, nth_built, Stands, AreParts, IsBuilt, AreBuilt, Makes}
 use Rattle.l_patterns.proofs.EllLemmas.{written-cases, written-same, flipped, split-same, rounded-within}
 use Rattle.l_patterns.proofs.PartLemmas.{base-is, base-not, fits-first, fits-second}
 
@@ -53,6 +54,15 @@ are-lawful i r (K1 x1 x2 y1) p s h a b e k u v = (rw e (rounded-within i _ p h.f
 are-lawful i r (K2 c d) p s h a b e k u v = (rw e (rounded-within i _ p h.first), u, (rw k (rounded-within i _ s h.second), v, tt))
 are-lawful i r (K3 d c) p s h a b e k u v = (rw e (rounded-within i _ p h.first), u, (rw k (rounded-within i _ s h.second), v, tt))
 are-lawful i r (K4 c d) p s h a b e k u v = (rw e (rounded-within i _ p h.first), u, (rw k (rounded-within i _ s h.second), v, tt))
+
+-- what is read at a place within the list
+abbrev pub blank : Built
+blank = record {
+  region = region' 0 0 0 0; cut = K1 0 0 0; count = 0;
+  first = record { region = region' 0 0 0 0; built = None; count = 0 }; second = record { region = region' 0 0 0 0; built = None; count = 0 } }
+
+pub read-built : (bs : List Built) (j : ℕ) → j < length bs → nth_built bs j ≡ slice_index_or bs j blank
+read-built bs j h = get_or_default bs j none blank h
 
 -- what stands for a region in the list of what was built
 module _ (q : Sides) (bs : List Built) (h : AreBuilt q bs) (r : Region) (f : Fits q r) (j n : ℕ) (t : Stands q.inst bs (length bs) (written r) (Some j) n) (b : Built) (e : nth_built bs j ≡ b) where

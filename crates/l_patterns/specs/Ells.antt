@@ -87,6 +87,10 @@ pub record IsSearchSize (xs ys : List ℕ) : Type 0 where
   pub x_few : length xs ≤ 200
   pub y_few : length ys ≤ 200
 
+-- there are no more choices of four normal places than n
+abbrev pub AreFewChoices : List ℕ → List ℕ → ℕ → Type 0
+AreFewChoices xs ys n = length xs * length ys * (length xs * length ys) ≤ n
+
 -- so few that the search always ends
 abbrev pub IsEllSize : List ℕ → List ℕ → Type 0
 IsEllSize xs ys = length xs * length ys ≤ 400
