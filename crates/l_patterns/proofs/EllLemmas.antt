@@ -1,23 +1,22 @@
 -- What holds of each number of a region: what its cells allow, and that a part that is the region itself gives nothing greater.
-use Rattle.std.proofs.Common.{◌≡◌, ℕ, Bool, zero, suc, ◌⊎◌, ◌+◌, ◌-◌, ◌*◌, ◌≤◌, ◌<◌, ◌==◌, ◌||◌, cond, true, false, refl, ap, sym, ◌∙◌, subst, arith, inl, inr, List, [], ◌∷◌}
-use Rattle.std.proofs.lemmas.Bool.{cases_lt, eqb-true, eq-eqb}
+use Rattle.std.proofs.Common.{◌≡◌, ℕ, Bool, ◌⊎◌, ◌+◌, ◌-◌, ◌*◌, ◌≤◌, ◌<◌, ◌==◌, ◌||◌, cond, true, false, refl, ap, sym, ◌∙◌, subst, arith, inl, inr}
+use Rattle.std.proofs.lemmas.Bool.{cases_lt, eq-eqb}
 use Rattle.std.proofs.Math.Nat.{le_trans, le_refl, mul-le-mul}
 use Rattle.plan_geometry.specs.declared.instances.Inst.{Inst}
 use Rattle.block_tree.specs.declared.regions.Region.{Region}
 use Rattle.block_tree.specs.declared.regions.Cut.{Cut}
 use Rattle.block_tree.specs.declared.regions.Cut.TheVariants.{K1, K2, K3, K4}
-use Rattle.block_tree.specs.declared.parts.Part.{Part}
 use Rattle.block_tree.specs.Regions.{Within, IsOrdered, is_rectangle, region, rectangle, side_x, side_y, area}
 use Rattle.block_tree.specs.Parts.{IsCut, ell_parts}
 use Rattle.block_tree.specs.Trees.{uniform}
-use Rattle.block_tree.proofs.AreaLemmas.{area-within, area-sides, area-rectangle, areas, areas-ell, ordered-ell}
+use Rattle.block_tree.proofs.AreaLemmas.{area-within, area-sides, area-rectangle, areas-ell, ordered-ell}
 use Rattle.block_tables.specs.Numbers.{IsSum, RoundsTo}
 use Rattle.block_tables.specs.declared.patterns.Pattern.TheVariants.{Five}
 use Rattle.block_tables.specs.Numbers.{by_grid as by_number}
 use Rattle.block_tables.proofs.BoundLemmas.{down-same, area as number-cells}
-use Rattle.l_patterns.specs.Ells.{EllAll, by_grid, by_cut, IsSplit, IsRounded, IsNormalCut, part_at, written}
+use Rattle.l_patterns.specs.Ells.{EllAll, by_grid, by_cut, IsSplit, IsRounded, part_at, written}
 use Rattle.l_patterns.specs.Cuts.{IsRegion}
-use Rattle.l_patterns.specs.Laws.{EllCellsLaw, WholePartsLaw, BoundsSmallerParts}
+use Rattle.l_patterns.specs.Laws.{EllCellsLaw, WholePartsLaw}
 use Rattle.l_patterns.proofs.WholeLemmas.{IsEll, Equal, same-area, k3-second, k4-second, k1-first}
 
 -- the same rectangle by its sides
@@ -55,7 +54,12 @@ rounded-within i r p h = (h.big_x.normal.within, h.big_y.normal.within, h.small_
 
 pub rounded-region : (i : Inst) (r p : Region) → IsOrdered r → IsRounded i r p → IsRegion i p
 rounded-region i r p o h = record {
-  ordered = rounded-ordered i r p o h; big_x = sum-of i _ _ h.big_x; big_y = sum-of i _ _ h.big_y; small_x = sum-of i _ _ h.small_x; small_y = sum-of i _ _ h.small_y }
+  ordered = rounded-ordered i r p o h;
+  big_x = sum-of i _ _ h.big_x;
+  big_y = sum-of i _ _ h.big_y;
+  small_x = sum-of i _ _ h.small_x;
+  small_y = sum-of i _ _ h.small_y;
+}
 
 pub raw-first : (i : Inst) (r : Region) (cut : Cut) → IsOrdered r → IsCut r cut → IsOrdered (part_at (ell_parts r cut) 0)
 raw-first i r (K1 x1 x2 y1) o h = (ordered-ell r (K1 x1 x2 y1) o h).0
@@ -85,9 +89,12 @@ pub parts-area : (i : Inst) (r p q : Region) (cut : Cut) → IsOrdered r → IsS
 parts-area i r p q cut o s =
     let a = raw-first i r cut o s.lawful in
     let b = raw-second i r cut o s.lawful in
-    omega (arith, raw-areas r cut o s.lawful,
+    omega (
+      arith,
+      raw-areas r cut o s.lawful,
       area-within p _ (rounded-ordered i _ p a s.first) a (rounded-within i _ p s.first),
-      area-within q _ (rounded-ordered i _ q b s.second) b (rounded-within i _ q s.second))
+      area-within q _ (rounded-ordered i _ q b s.second) b (rounded-within i _ q s.second),
+    )
 
 -- ---- the cells
 
@@ -97,8 +104,13 @@ spread m n k = omega arith
 pub number-area : (i : Inst) {r : Region} {n : ℕ} → IsOrdered r → EllAll i r n → n * (i.long * i.short) ≤ area r
 number-area i {r = r} o (by_grid h e) = rw (e, area-sides r o h) (uniform-area i (side_x r) (side_y r))
 number-area i {r = r} o (by_cut {p = p} {s = q} {cut = cut} {m = k} {n = l} s a b e) =
-    rw e (omega (arith, spread k l (i.long * i.short), number-area i (first-region i r p q cut o s).ordered a,
-      number-area i (second-region i r p q cut o s).ordered b, parts-area i r p q cut o s))
+    rw e (omega (
+      arith,
+      spread k l (i.long * i.short),
+      number-area i (first-region i r p q cut o s).ordered a,
+      number-area i (second-region i r p q cut o s).ordered b,
+      parts-area i r p q cut o s,
+    ))
 
 pub case-some : (i : Inst) → 1 ≤ i.long * i.short
 case-some i = let a : 1 * 1 ≤ i.long * i.short = mul-le-mul {n₁ = 1} {n₂ = i.long} (omega (arith, i.sides.short_min, i.sides.ordered)) i.sides.short_min in omega arith
@@ -107,8 +119,9 @@ pub number-none : (i : Inst) (r : Region) (n : ℕ) → IsOrdered r → area r �
 number-none i r n o z h =
     let a = number-area i o h in
     elim (cases_lt 0 n) [
-      inl w ↦ absurd (let b : 1 * 1 ≤ n * (i.long * i.short) = mul-le-mul w (case-some i) in omega arith)
-      | inr w ↦ omega arith ]
+      | inl w ↦ absurd (let b : 1 * 1 ≤ n * (i.long * i.short) = mul-le-mul w (case-some i) in omega arith)
+      | inr w ↦ omega arith
+    ]
 
 -- ---- the same rectangle under two names
 
@@ -125,7 +138,8 @@ split-same i r p (K1 x1 x2 y1) a b s h =
       lawful = (s.of_p, h.lawful.1, omega (arith, h.lawful.2, s.x), omega (arith, h.lawful.3, s.y));
       normal = h.normal;
       first = subst F s.y h.first;
-      second = subst (λ u. G u (side_y p)) s.x g1 }
+      second = subst (λ u. G u (side_y p)) s.x g1;
+    }
 split-same i r p (K2 c e) a b s h = absurd (true-false (is_rectangle r) s.of_r h.lawful.0)
 split-same i r p (K3 d e) a b s h = absurd (true-false (is_rectangle r) s.of_r h.lawful.0)
 split-same i r p (K4 c e) a b s h = absurd (true-false (is_rectangle r) s.of_r h.lawful.0)
@@ -166,10 +180,13 @@ ell-of : (r : Region) → IsOrdered r → is_rectangle r ≡ false → IsEll r
 ell-of r o h = record { low_x = low_x; low_y = low_y; high_x = high_x; high_y = high_y } where
   high_x : r.small_x < r.big_x
   high_x = elim (cases_lt r.small_x r.big_x) [ inl w ↦ w | inr w ↦ absurd (let e : (r.small_x == r.big_x) ≡ true = eq-eqb _ _ (omega (arith, o.0)) in true-false (is_rectangle r) (rw e refl) h) ]
+
   high_y : r.small_y < r.big_y
   high_y = elim (cases_lt r.small_y r.big_y) [ inl w ↦ w | inr w ↦ absurd (let e : (r.small_y == r.big_y) ≡ true = eq-eqb _ _ (omega (arith, o.1)) in true-false (is_rectangle r) (or3 (r.small_x == r.big_x) _ _ _ (inl e)) h) ]
+
   low_x : 0 < r.small_x
   low_x = elim (cases_lt 0 r.small_x) [ inl w ↦ w | inr w ↦ absurd (let e : (r.small_x == 0) ≡ true = eq-eqb _ _ (omega arith) in true-false (is_rectangle r) (or3 (r.small_x == r.big_x) _ _ _ (inr (inl e))) h) ]
+
   low_y : 0 < r.small_y
   low_y = elim (cases_lt 0 r.small_y) [ inl w ↦ w | inr w ↦ absurd (let e : (r.small_y == 0) ≡ true = eq-eqb _ _ (omega arith) in true-false (is_rectangle r) (or3 (r.small_x == r.big_x) _ _ _ (inr (inr e))) h) ]
 
@@ -177,7 +194,7 @@ ell-of r o h = record { low_x = low_x; low_y = low_y; high_x = high_x; high_y = 
 pub region-is : (p r : Region) → p.big_x ≡ r.big_x → p.big_y ≡ r.big_y → p.small_x ≡ r.small_x → p.small_y ≡ r.small_y → p ≡ r
 region-is p r a b c d =
     ap (λ z. region z p.big_y p.small_x p.small_y) a ∙ (ap (λ z. region r.big_x z p.small_x p.small_y) b
-      ∙ (ap (λ z. region r.big_x r.big_y z p.small_y) c ∙ ap (λ z. region r.big_x r.big_y r.small_x z) d))
+    ∙ (ap (λ z. region r.big_x r.big_y z p.small_y) c ∙ ap (λ z. region r.big_x r.big_y r.small_x z) d))
 
 equal-rounded : (i : Inst) (r raw p : Region) → IsRegion i r → Equal raw r → IsRounded i raw p → p ≡ r
 equal-rounded i r raw p g e h =
@@ -198,23 +215,26 @@ wide-same r p a b h x y u v (inr e) =
       of_r = or3 (p.small_x == p.big_x) _ _ _ (inl t);
       of_p = h;
       x = (elim (p.small_x == p.big_x) as (λ z. cond (z || (p.small_y == p.big_y) || (p.small_x == 0)) p.big_x p.small_x ≡ p.big_x) [ true ↦ refl | false ↦ rw t refl ]) ∙ (u ∙ sym x);
-      y = (elim (p.small_x == p.big_x) as (λ z. cond (z || (p.small_y == p.big_y)) p.big_y (cond (p.small_x == 0) p.small_y p.big_y) ≡ p.big_y) [ true ↦ refl | false ↦ rw t refl ]) ∙ (v ∙ sym y) }
+      y = (elim (p.small_x == p.big_x) as (λ z. cond (z || (p.small_y == p.big_y)) p.big_y (cond (p.small_x == 0) p.small_y p.big_y) ≡ p.big_y) [ true ↦ refl | false ↦ rw t refl ]) ∙ (v ∙ sym y);
+    }
 
 pub sides-sum_x : (i : Inst) (r : Region) → IsRegion i r → IsSum i (side_x r)
 sides-sum_x i r g = elim ((r.small_x == r.big_x) || (r.small_y == r.big_y) || (r.small_x == 0)) as (λ t. IsSum i (cond t r.big_x r.small_x)) [ true ↦ g.big_x | false ↦ g.small_x ]
 
 pub sides-sum_y : (i : Inst) (r : Region) → IsRegion i r → IsSum i (side_y r)
 sides-sum_y i r g = elim ((r.small_x == r.big_x) || (r.small_y == r.big_y)) as (λ t. IsSum i (cond t r.big_y (cond (r.small_x == 0) r.small_y r.big_y))) [
-    true ↦ g.big_y
-    | false ↦ elim (r.small_x == 0) as (λ t. IsSum i (cond t r.small_y r.big_y)) [ true ↦ g.small_y | false ↦ g.big_y ] ]
+  | true ↦ g.big_y
+  | false ↦ elim (r.small_x == 0) as (λ t. IsSum i (cond t r.small_y r.big_y)) [ true ↦ g.small_y | false ↦ g.big_y ]
+]
 
 down-to : (i : Inst) (s d a : ℕ) → s ≡ a → IsSum i a → RoundsTo i s d → d ≡ a
 down-to i s d a e u h = down-same i s d (subst (IsSum i) (sym e) u) h ∙ e
 
 positive : (a b : ℕ) → 0 < a * b → (0 < a) × (0 < b)
-positive a b h =
-    (elim (cases_lt 0 a) [ inl w ↦ w | inr w ↦ absurd (let e : a ≡ 0 = omega arith in let f : a * b ≡ 0 * b = ap (λ z. z * b) e in omega arith) ],
-     elim (cases_lt 0 b) [ inl w ↦ w | inr w ↦ absurd (let e : b ≡ 0 = omega arith in let f : a * b ≡ a * 0 = ap (λ z. a * z) e in omega arith) ])
+positive a b h = (
+  elim (cases_lt 0 a) [ inl w ↦ w | inr w ↦ absurd (let e : a ≡ 0 = omega arith in let f : a * b ≡ 0 * b = ap (λ z. z * b) e in omega arith) ],
+  elim (cases_lt 0 b) [ inl w ↦ w | inr w ↦ absurd (let e : b ≡ 0 = omega arith in let f : a * b ≡ a * 0 = ap (λ z. a * z) e in omega arith) ],
+)
 
 whole-first : (i : Inst) (r p : Region) (cut : Cut) → IsRegion i r → 0 < area r → IsCut r cut
     → IsRounded i (part_at (ell_parts r cut) 0) p → area r ≤ area (part_at (ell_parts r cut) 0) → Same p r
@@ -223,8 +243,8 @@ whole-first i r p (K1 x1 x2 y1) g z h s w =
     let t = positive (side_x r) (side_y r) (omega arith) in
     let k = k1-first (side_x r) (side_y r) x1 x2 y1 t.0 t.1 h.1 h.2 h.3 (omega arith) in
     inr (wide-same r p (side_x r) (side_y r) h.0 refl refl
-      (down-to i _ _ _ k.0 (sides-sum_x i r g) s.big_x) (down-to i _ _ _ refl (sides-sum_y i r g) s.big_y)
-      (elim k.1 [ inl e ↦ inl (down-to i _ _ _ e (sides-sum_x i r g) s.small_x) | inr e ↦ inr (down-to i _ _ _ e (sides-sum_y i r g) s.small_y) ]))
+    (down-to i _ _ _ k.0 (sides-sum_x i r g) s.big_x) (down-to i _ _ _ refl (sides-sum_y i r g) s.big_y)
+    (elim k.1 [ inl e ↦ inl (down-to i _ _ _ e (sides-sum_x i r g) s.small_x) | inr e ↦ inr (down-to i _ _ _ e (sides-sum_y i r g) s.small_y) ]))
 whole-first i r p (K2 c k) g z h s w =
     let o = g.ordered in
     let raw : Region = region r.big_x r.big_y c k in
@@ -245,8 +265,8 @@ whole-second i r p (K1 x1 x2 y1) g z h s w =
     let t = positive (side_x r) (side_y r) (omega arith) in
     let k = k1-first (side_x r) (side_y r) (side_x r - x2) (side_x r - x1) (side_y r - y1) t.0 t.1 (omega (arith, h.1, h.2)) (omega arith) (omega arith) (omega arith) in
     inr (wide-same r p (side_x r) (side_y r) h.0 refl refl
-      (down-to i _ _ _ k.0 (sides-sum_x i r g) s.big_x) (down-to i _ _ _ refl (sides-sum_y i r g) s.big_y)
-      (elim k.1 [ inl e ↦ inl (down-to i _ _ _ e (sides-sum_x i r g) s.small_x) | inr e ↦ inr (down-to i _ _ _ e (sides-sum_y i r g) s.small_y) ]))
+    (down-to i _ _ _ k.0 (sides-sum_x i r g) s.big_x) (down-to i _ _ _ refl (sides-sum_y i r g) s.big_y)
+    (elim k.1 [ inl e ↦ inl (down-to i _ _ _ e (sides-sum_x i r g) s.small_x) | inr e ↦ inr (down-to i _ _ _ e (sides-sum_y i r g) s.small_y) ]))
 whole-second i r p (K2 c k) g z h s w =
     let o = g.ordered in
     let raw : Region = region (r.big_x - c) (r.big_y - k) (r.small_x - c) (r.small_y - k) in
@@ -259,21 +279,22 @@ whole-second i r p (K4 c e) g z h s w = absurd (omega (arith, k4-second r c e (e
 module _ (i : Inst) (r : Region) (g : IsRegion i r) (some : 0 < area r) (m : ℕ)
     (grid : is_rectangle r ≡ true → uniform i (side_x r) (side_y r) ≤ m)
     (cuts : (cut : Cut) (p q : Region) → IsSplit i r cut p q → area p < area r → area q < area r → (k l : ℕ) → EllAll i p k → EllAll i q l → k + l ≤ m) where
-
   at-cut : (cut : Cut) (p q : Region) (k l : ℕ) → IsSplit i r cut p q → EllAll i p k → EllAll i q l → (Same p r → k ≤ m) → (Same q r → l ≤ m) → k + l ≤ m
   at-cut cut p q k l s a b x y =
-    let gp = first-region i r p q cut g.ordered s in
-    let gq = second-region i r p q cut g.ordered s in
-    let sum = parts-area i r p q cut g.ordered s in
-    elim (cases_lt (area p) (area r)) [
-      inr w ↦ (
-        let le = area-within p _ gp.ordered (raw-first i r cut g.ordered s.lawful) (rounded-within i _ p s.first) in
-        omega (arith, x (whole-first i r p cut g some s.lawful s.first (omega arith)), number-none i q l gq.ordered (omega arith) b))
-      | inl w ↦ elim (cases_lt (area q) (area r)) [
-        inr v ↦ (
-          let le = area-within q _ gq.ordered (raw-second i r cut g.ordered s.lawful) (rounded-within i _ q s.second) in
-          omega (arith, y (whole-second i r q cut g some s.lawful s.second (omega arith)), number-none i p k gp.ordered (omega arith) a))
-        | inl v ↦ cuts cut p q s w v k l a b ] ]
+      let gp = first-region i r p q cut g.ordered s in
+      let gq = second-region i r p q cut g.ordered s in
+      let sum = parts-area i r p q cut g.ordered s in
+      elim (cases_lt (area p) (area r)) [
+        | inr w ↦ (
+            let le = area-within p _ gp.ordered (raw-first i r cut g.ordered s.lawful) (rounded-within i _ p s.first) in
+            omega (arith, x (whole-first i r p cut g some s.lawful s.first (omega arith)), number-none i q l gq.ordered (omega arith) b))
+        | inl w ↦ elim (cases_lt (area q) (area r)) [
+          | inr v ↦ (
+              let le = area-within q _ gq.ordered (raw-second i r cut g.ordered s.lawful) (rounded-within i _ q s.second) in
+              omega (arith, y (whole-second i r q cut g some s.lawful s.second (omega arith)), number-none i p k gp.ordered (omega arith) a))
+          | inl v ↦ cuts cut p q s w v k l a b
+        ]
+      ]
 
   turned-split : (r' : Region) (cut : Cut) (p q : Region) → Same r' r → IsSplit i r' cut p q → IsSplit i r cut p q
   turned-split r' cut p q (inl e) s = subst (λ z. IsSplit i z cut p q) e s
@@ -286,7 +307,7 @@ module _ (i : Inst) (r : Region) (g : IsRegion i r) (some : 0 < area r) (m : ℕ
   pub bounded : {r' : Region} {n : ℕ} → EllAll i r' n → Same r' r → n ≤ m
   bounded {r' = r'} (by_grid h e) s = rw e (grid-same r' s h)
   bounded {r' = r'} (by_cut {p = p} {s = q} {cut = cut} {m = k} {n = l} h a b e) s =
-    rw e (at-cut cut p q k l (turned-split r' cut p q s h) a b (λ g. bounded a g) (λ g. bounded b g))
+      rw e (at-cut cut p q k l (turned-split r' cut p q s h) a b (λ g. bounded a g) (λ g. bounded b g))
 
 -- ---- a part and its written form
 
@@ -308,18 +329,21 @@ written-cases r = go (is_rectangle r) refl where
 
 pub number-written : (i : Inst) (r : Region) (n : ℕ) → EllAll i r n → EllAll i (written r) n
 number-written i r n h = elim (written-cases r) [
-    inl e ↦ subst (λ z. EllAll i z n) (sym e) h
-    | inr e ↦ subst (λ z. EllAll i z n) (sym e.1) (number-same i (written-same r e.0) h) ]
+  | inl e ↦ subst (λ z. EllAll i z n) (sym e) h
+  | inr e ↦ subst (λ z. EllAll i z n) (sym e.1) (number-same i (written-same r e.0) h)
+]
 
 pub written-number : (i : Inst) (r : Region) (n : ℕ) → EllAll i (written r) n → EllAll i r n
 written-number i r n h = elim (written-cases r) [
-    inl e ↦ subst (λ z. EllAll i z n) e h
-    | inr e ↦ number-same i (flipped _ _ (written-same r e.0)) (subst (λ z. EllAll i z n) e.1 h) ]
+  | inl e ↦ subst (λ z. EllAll i z n) e h
+  | inr e ↦ number-same i (flipped _ _ (written-same r e.0)) (subst (λ z. EllAll i z n) e.1 h)
+]
 
 pub area-written : (r : Region) → IsOrdered r → area (written r) ≡ area r
 area-written r o = elim (written-cases r) [
-    inl e ↦ ap area e
-    | inr e ↦ ap area e.1 ∙ (area-rectangle (side_x r) (side_y r) ∙ sym (area-sides r o e.0)) ]
+  | inl e ↦ ap area e
+  | inr e ↦ ap area e.1 ∙ (area-rectangle (side_x r) (side_y r) ∙ sym (area-sides r o e.0))
+]
 
 -- ---- the laws
 

@@ -1,10 +1,10 @@
 -- A memo that is full lists as many regions that the search may come to as it may have; one that is not among them is one more.
-use Rattle.std.proofs.Common.{◌≡◌, ℕ, Bool, zero, suc, ◌+◌, ◌≤◌, ◌<◌, ◌==◌, ◌&&◌, true, false, refl, ap, sym, subst, arith, All, AllPairs, List, [], ◌∷◌, Option, Some, None, Contains, length, map, take}
+use Rattle.std.proofs.Common.{◌≡◌, ℕ, Bool, ◌≤◌, true, false, refl, subst, arith, All, AllPairs, List, [], ◌∷◌, None, Contains, length, map, take}
 use Rattle.std.specs.List.{AllByRecursion, IsDistinct}
 use Rattle.std.specs.Map.{keys_of, lookup}
 use Rattle.std.proofs.lemmas.Bool.{eq-eqb}
 use Rattle.std.proofs.lemmas.List.{length-map, length-take-le}
-use Rattle.std.proofs.lemmas.List.Elements.{All-nil, All-cons, All-take, All-map}
+use Rattle.std.proofs.lemmas.List.Elements.{All-nil, All-cons, All-take}
 use Rattle.std.proofs.lemmas.List.Kept.{AllPairs-cons}
 use Rattle.std.proofs.lemmas.Map.{none_passes_from_lookup}
 use Rattle.std.proofs.lemmas.Map.Keys.{IsDistinct-head, IsDistinct-tail}
@@ -61,5 +61,6 @@ full q s r most h w none d m =
       count = omega (arith, length-take-le most (regions es) long);
       each = All-cons (Reach q.inst) r front w (All-take (Reach q.inst) most (regions es) (each q.inst es (λ e c. (h.memo e c).reach)));
       different = AllPairs-cons Differ r front
-        (All-take (Differ r) most (regions es) (apart-all r es (none_passes_from_lookup (same_key (key_of r)) es none)))
-        (AllPairs-take Differ most (regions es) (different es d)) }
+          (All-take (Differ r) most (regions es) (apart-all r es (none_passes_from_lookup (same_key (key_of r)) es none)))
+          (AllPairs-take Differ most (regions es) (different es d));
+    }

@@ -1,5 +1,5 @@
 -- What the memo has, and what was built.
-use Rattle.std.proofs.Common.{◌≡◌, ℕ, Bool, zero, suc, ◌⊎◌, ◌+◌, ◌-◌, ◌≤◌, ◌<◌, ◌==◌, ◌||◌, ◌&&◌, true, false, refl, ap, sym, ◌∙◌, subst, arith, inl, inr, List, [], ◌∷◌, ◌++◌, Option, Some, None, Contains, length, slice_index, min}
+use Rattle.std.proofs.Common.{◌≡◌, ℕ, Bool, zero, suc, ◌+◌, ◌-◌, ◌≤◌, ◌<◌, ◌==◌, ◌&&◌, true, false, refl, ap, sym, ◌∙◌, subst, arith, inl, inr, List, [], ◌∷◌, ◌++◌, Option, Some, None, length, slice_index, min}
 use Rattle.std.proofs.lemmas.Bool.{cases_lt, eq-eqb, eqb-true}
 use Rattle.std.proofs.Math.Nat.{le_refl}
 use Rattle.plan_geometry.specs.declared.instances.Inst.{Inst}
@@ -17,7 +17,7 @@ use Rattle.l_patterns.specs.declared.knowledge.Search.{Search}
 use Rattle.l_patterns.specs.declared.trying.Frame.{Frame}
 use Rattle.l_patterns.specs.Ells.{EllAll, by_grid, by_cut, IsSplit, written}
 use Rattle.l_patterns.specs.Cuts.{AreSidesOf, Fits, point}
-use Rattle.l_patterns.specs.States.{base, Reaches, AreBounds, nth_built, Stands, AreParts, IsBuilt, AreBuilt, key_of, region_of, IsRemembered, IsSearch, IsFrame}
+use Rattle.l_patterns.specs.States.{Reaches, AreBounds, nth_built, Stands, AreParts, IsBuilt, AreBuilt, key_of, region_of, IsRemembered, IsSearch, IsFrame}
 use Rattle.l_patterns.proofs.EllLemmas.{or3, written-number}
 use Rattle.l_patterns.proofs.PartLemmas.{base-is, base-not, fits-first, fits-second, fits-written}
 
@@ -33,7 +33,7 @@ same_key k x = (k.big_x == x.big_x) && ((k.big_y == x.big_y) && ((k.small_x == x
 pub region-at : (r : Region) (x : Key) → r.big_x ≡ x.big_x → r.big_y ≡ x.big_y → r.small_x ≡ x.small_x → r.small_y ≡ x.small_y → r ≡ region_of x
 region-at r x a b c d =
     ap (λ z. region z r.big_y r.small_x r.small_y) a ∙ (ap (λ z. region x.big_x z r.small_x r.small_y) b
-      ∙ (ap (λ z. region x.big_x x.big_y z r.small_y) c ∙ ap (λ z. region x.big_x x.big_y x.small_x z) d))
+    ∙ (ap (λ z. region x.big_x x.big_y z r.small_y) c ∙ ap (λ z. region x.big_x x.big_y x.small_x z) d))
 
 pub same-key : (r : Region) (x : Key) → same_key (key_of r) x ≡ true → r ≡ region_of x
 same-key r x h =
@@ -71,7 +71,8 @@ parts-more : (i : Inst) (bs : List Built) (b : Built) (upto : ℕ) (r : Region) 
 parts-more i bs b upto r cut x y w h = record {
   split = h.split;
   first = stands-more i bs b upto upto (written x.region) x.built x.count (le_refl _) w h.first;
-  second = stands-more i bs b upto upto (written y.region) y.built y.count (le_refl _) w h.second }
+  second = stands-more i bs b upto upto (written y.region) y.built y.count (le_refl _) w h.second;
+}
 
 built-more : (q : Sides) (bs : List Built) (b x : Built) (j : ℕ) → j ≤ length bs → IsBuilt q bs j x → IsBuilt q (more bs b) j x
 built-more q bs b x j w h = record { fits = h.fits; parts = parts-more q.inst bs b j x.region x.cut x.first x.second w h.parts; sum = h.sum; reached = h.reached }
@@ -86,13 +87,18 @@ extended q s t b h g em eb =
     let bs = s.built.items in
     record {
       built = rw eb (λ j w. elim (cases_lt j (length bs)) [
-          inl v ↦ subst (λ z. IsBuilt q (more bs b) j z) (sym (nth-more bs b j v)) (built-more q bs b (nth_built bs j) j (omega arith) (h.built j v))
-          | inr v ↦ let e : length bs ≡ j = omega (arith, w, length-more bs b) in
-              subst (λ z. IsBuilt q (more bs b) z (nth_built (more bs b) z)) e
-                (subst (λ z. IsBuilt q (more bs b) (length bs) z) (sym (nth-last bs b)) (built-more q bs b b (length bs) (le_refl _) g)) ]);
+        | inl v ↦ subst (λ z. IsBuilt q (more bs b) j z) (sym (nth-more bs b j v)) (built-more q bs b (nth_built bs j) j (omega arith) (h.built j v))
+        | inr v ↦ let e : length bs ≡ j = omega (arith, w, length-more bs b) in
+            subst (λ z. IsBuilt q (more bs b) z (nth_built (more bs b) z)) e
+            (subst (λ z. IsBuilt q (more bs b) (length bs) z) (sym (nth-last bs b)) (built-more q bs b b (length bs) (le_refl _) g))
+      ]);
       memo = rw (em, eb) (λ e c. let m = h.memo e c in record {
-        fits = m.fits; reach = m.reach; bounds = m.bounds;
-        lower = stands-more q.inst bs b (length bs) (length (more bs b)) (region_of e.0) e.1.built e.1.low (omega (arith, length-more bs b)) (le_refl _) m.lower }) }
+        fits = m.fits;
+        reach = m.reach;
+        bounds = m.bounds;
+        lower = stands-more q.inst bs b (length bs) (length (more bs b)) (region_of e.0) e.1.built e.1.low (omega (arith, length-more bs b)) (le_refl _) m.lower;
+      });
+    }
 
 -- ---- what stands is reached
 
@@ -117,10 +123,12 @@ some-number q g r f = go (is_rectangle r) refl where
         lawful = (e, le_refl _, le_refl _, o.1);
         normal = (f.region.small_x, f.region.small_y);
         first = record { big_x = dx _ (omega arith); big_y = dy _ (omega arith); small_x = dx _ (omega arith); small_y = dy _ (omega arith) };
-        second = record { big_x = dx _ (omega arith); big_y = dy _ (omega arith); small_x = dx _ (omega arith); small_y = dy _ (omega arith) } } in
-      (uniform q.inst (side_x p) (side_y p) + uniform q.inst (side_x s) (side_y s),
+        second = record { big_x = dx _ (omega arith); big_y = dy _ (omega arith); small_x = dx _ (omega arith); small_y = dy _ (omega arith) };
+      } in (
+        uniform q.inst (side_x p) (side_y p) + uniform q.inst (side_x s) (side_y s),
         by_cut split (by_grid (or3 (p.small_x == p.big_x) _ _ _ (inl (eq-eqb (Y r.small_y) (Y r.small_y) refl))) refl)
-          (by_grid (rw (eq-eqb (X r.small_x) (X r.small_x) refl) refl) refl) refl)
+            (by_grid (rw (eq-eqb (X r.small_x) (X r.small_x) refl) refl) refl) refl,
+      )
 
 -- what stands is not above some number
 pub stands-reaches : (q : Sides) → AreSidesOf q → (bs : List Built) → AreBuilt q bs → (r : Region) → Fits q r → (o : Option ℕ) (n : ℕ)
@@ -140,10 +148,11 @@ take-reaches q g bs h r f cut x y t =
     let fx = fits-written q x.region (fits-first q r f cut x.region y.region t.split) in
     let fy = fits-written q y.region (fits-second q r f cut x.region y.region t.split) in
     let a = stands-reaches q g bs h (written x.region) fx x.built x.count t.first in
-    let b = stands-reaches q g bs h (written y.region) fy y.built y.count t.second in
-    (a.0 + b.0,
+    let b = stands-reaches q g bs h (written y.region) fy y.built y.count t.second in (
+      a.0 + b.0,
       by_cut t.split (written-number q.inst x.region a.0 a.1) (written-number q.inst y.region b.0 b.1) refl,
-      omega (arith, a.2, b.2))
+      omega (arith, a.2, b.2),
+    )
 
 abbrev pub built_of : Frame → Cut → Held → Held → Built
 built_of f cut x y = record { region = f.region; cut = cut; first = x; second = y; count = x.count + y.count }
@@ -173,8 +182,10 @@ lowered q g bs h f k w v b l high e =
         order = omega (arith, low, b.order, e);
         from = b.from;
         cells = omega (arith, b.cells, e);
-        small = omega (arith, b.small, e) };
-      lower = l }
+        small = omega (arith, b.small, e);
+      };
+      lower = l;
+    }
 
 pub raised : (q : Sides) → AreSidesOf q → (bs : List Built) → AreBuilt q bs → (f : Frame) → IsFrame q f → (cut : Cut) (x y : Held)
     → AreParts q.inst bs (length bs) f.region cut x y → (k : Known) → AreBounds q.inst f.region k → k.low < x.count + y.count
@@ -184,6 +195,8 @@ raised q g bs h f w cut x y t k b lt place pe items ie =
     let a = take-reaches q g bs h f.region w.fits cut x y t in
     let e = nth-last bs (built_of f cut x y) in
     rw (ie, pe) (record {
-      fits = w.fits; reach = w.reach;
+      fits = w.fits;
+      reach = w.reach;
       bounds = record { upper = b.upper; order = omega (arith, a.2, b.upper a.0 a.1); from = omega (arith, b.from, lt); cells = b.cells; small = b.small };
-      lower = (omega (arith, length-more bs (built_of f cut x y)), ap (λ z. z.region) e, ap (λ z. z.count) e) })
+      lower = (omega (arith, length-more bs (built_of f cut x y)), ap (λ z. z.region) e, ap (λ z. z.count) e);
+    })

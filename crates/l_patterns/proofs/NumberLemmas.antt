@@ -1,22 +1,22 @@
 -- Each cut has a number.
-use Rattle.std.proofs.Common.{◌≡◌, ℕ, Bool, zero, suc, ◌⊎◌, ◌+◌, ◌-◌, ◌*◌, ◌/◌, ◌%◌, ◌≤◌, ◌<◌, ◌==◌, ◌||◌, cond, true, false, refl, ap, ap₂, sym, ◌∙◌, subst, arith, inl, inr, List, [], ◌∷◌, length, slice_index}
+use Rattle.std.proofs.Common.{◌≡◌, ℕ, ◌+◌, ◌*◌, ◌/◌, ◌%◌, ◌≤◌, ◌<◌, refl, ap, arith, inl, inr, List, length, slice_index}
 use Rattle.std.proofs.lemmas.Bool.{cases_lt}
 use Rattle.std.proofs.lemmas.Nat.{div-mul-add, mod-mul-add}
-use Rattle.std.proofs.Math.Nat.{div-mul-le_self, mod-lt, le_trans, mul-le-mul, mul-le-mul_left, mul-le-mul_right}
+use Rattle.std.proofs.Math.Nat.{div-mul-le_self, mod-lt, mul-le-mul_right}
 use Rattle.plan_geometry.specs.declared.instances.Inst.{Inst}
 use Rattle.block_tree.specs.declared.regions.Region.{Region}
 use Rattle.block_tree.specs.declared.regions.Cut.{Cut}
 use Rattle.block_tree.specs.declared.regions.Cut.TheVariants.{K1, K2, K3, K4}
-use Rattle.block_tree.specs.Regions.{is_rectangle, side_x, side_y, rectangle}
+use Rattle.block_tree.specs.Regions.{side_x, side_y}
 use Rattle.block_tree.specs.Parts.{IsCut}
 use Rattle.block_tree.proofs.AreaLemmas.{side-le_x, side-le_y}
-use Rattle.block_tables.specs.Numbers.{IsSum, RoundsTo}
+use Rattle.block_tables.specs.Numbers.{IsSum}
 use Rattle.block_tables.specs.Tables.{ArePlaced}
 use Rattle.block_tables.proofs.BoundLemmas.{down-same}
 use Rattle.l_patterns.specs.declared.sides.Sides.{Sides}
 use Rattle.l_patterns.specs.declared.sides.Side.{Side}
 use Rattle.l_patterns.specs.Ells.{IsNormalCut}
-use Rattle.l_patterns.specs.Cuts.{IsRegion, IsSide, AreSidesOf, Fits, count_up_to, cut_count, count_k1, count_k2, count_k3, count_k4, nth_k1, nth_k2, nth_k3, nth_k4, IsNth, by_k1, by_k2, by_k3, by_k4, point}
+use Rattle.l_patterns.specs.Cuts.{IsSide, AreSidesOf, Fits, count_up_to, cut_count, count_k2, count_k3, IsNth, by_k1, by_k2, by_k3, by_k4, point}
 use Rattle.l_patterns.specs.Laws.{NumberingLaw}
 
 -- a point up to s has a place below the number of points up to s
@@ -26,10 +26,13 @@ place i xs dx p s g u h w =
     let d = g.downs p (omega arith) in
     let e = g.downs s w in
     let same : slice_index xs (slice_index dx p) ≡ p = down-same i p _ u d in
-    let le : p ≤ slice_index xs (slice_index dx s) = e.greatest p (record { i = u.i; j = u.j; sum = u.sum; within = h }) in
-    (elim (cases_lt (slice_index dx s) (slice_index dx p)) [
-      inl v ↦ absurd (omega (arith, g.rising (slice_index dx s) (slice_index dx p) v (g.places p (omega arith))))
-      | inr v ↦ omega arith ], same)
+    let le : p ≤ slice_index xs (slice_index dx s) = e.greatest p (record { i = u.i; j = u.j; sum = u.sum; within = h }) in (
+      elim (cases_lt (slice_index dx s) (slice_index dx p)) [
+        | inl v ↦ absurd (omega (arith, g.rising (slice_index dx s) (slice_index dx p) v (g.places p (omega arith))))
+        | inr v ↦ omega arith
+      ],
+      same,
+    )
 
 -- two places in one number
 pub pair-lt : (a b n m : ℕ) → a < m → b < n → a * n + b < m * n
@@ -52,9 +55,11 @@ module _ (q : Sides) (r : Region) (g : AreSidesOf q) (f : Fits q r) where
       let c = at_y y1 (side_y r) u.2 h.3 (side-le_y r o) in
       let i : ℕ = slice_index q.x.places.now x1 in
       let j : ℕ = slice_index q.x.places.now x2 in
-      let t : ℕ = slice_index q.y.places.now y1 in
-      ((i * n + j) * m + t, rw h.0 (pair-lt (i * n + j) t m (n * n) (pair-lt i j n n a.0 b.0) c.0),
-        by_k1 h.0 (rw (div-mul-add (i * n + j) m t c.0, mod-mul-add (i * n + j) m t c.0, div-mul-add i n j b.0, mod-mul-add i n j b.0, a.1, b.1, c.1) refl))
+      let t : ℕ = slice_index q.y.places.now y1 in (
+        (i * n + j) * m + t,
+        rw h.0 (pair-lt (i * n + j) t m (n * n) (pair-lt i j n n a.0 b.0) c.0),
+        by_k1 h.0 (rw (div-mul-add (i * n + j) m t c.0, mod-mul-add (i * n + j) m t c.0, div-mul-add i n j b.0, mod-mul-add i n j b.0, a.1, b.1, c.1) refl),
+      )
   indexed (K2 x y) h u =
       let o = f.region.ordered in
       let m : ℕ = count_up_to q.y r.small_y in
@@ -89,8 +94,9 @@ numbered q r cut g f h u = indexed q r g f cut h u
 pub quotient : (k a m : ℕ) → k < a * m → k / m < a
 quotient k a m h =
     elim (cases_lt (k / m) a) [
-      inl w ↦ w
-      | inr w ↦ absurd (let c : a * m ≤ (k / m) * m = mul-le-mul_right m w in omega (arith, div-mul-le_self k m)) ]
+      | inl w ↦ w
+      | inr w ↦ absurd (let c : a * m ≤ (k / m) * m = mul-le-mul_right m w in omega (arith, div-mul-le_self k m))
+    ]
 
 pub remainder : (k a m : ℕ) → k < a * m → k % m < m
 remainder k a m h = elim (cases_lt 0 m) [ inl w ↦ mod-lt k w | inr w ↦ absurd (let e : m ≡ 0 = omega arith in let c : a * m ≡ a * 0 = ap (λ z. a * z) e in omega arith) ]

@@ -1,12 +1,12 @@
 -- What the parts of a cut give.
-use Rattle.std.proofs.Common.{◌≡◌, ℕ, Bool, zero, suc, ◌⊎◌, ◌+◌, ◌-◌, ◌*◌, ◌/◌, ◌≤◌, ◌<◌, ◌==◌, ◌||◌, cond, true, false, refl, ap, sym, ◌∙◌, subst, arith, inl, inr}
+use Rattle.std.proofs.Common.{◌≡◌, ℕ, Bool, ◌+◌, ◌*◌, ◌/◌, ◌≤◌, ◌<◌, true, false, refl, ap, sym, subst, arith, inl, inr}
 use Rattle.std.proofs.lemmas.Bool.{cases_lt}
 use Rattle.std.proofs.Math.Nat.{le_trans, le_refl, mul-le-mul_right, lt-div-mul-add}
 use Rattle.plan_geometry.specs.declared.instances.Inst.{Inst}
 use Rattle.block_tree.specs.declared.regions.Region.{Region}
 use Rattle.block_tree.specs.declared.regions.Cut.{Cut}
 use Rattle.block_tree.specs.declared.regions.Cut.TheVariants.{K1, K2, K3, K4}
-use Rattle.block_tree.specs.Regions.{IsOrdered, is_rectangle, region, rectangle, side_x, side_y, area}
+use Rattle.block_tree.specs.Regions.{IsOrdered, is_rectangle, side_x, side_y, area}
 use Rattle.block_tree.specs.Parts.{IsCut, ell_parts}
 use Rattle.block_tree.specs.Trees.{uniform}
 use Rattle.block_tree.proofs.AreaLemmas.{side-le_x, side-le_y}
@@ -20,9 +20,10 @@ use Rattle.l_patterns.proofs.EllLemmas.{first-region, second-region, number-area
 
 le-quotient : (n k a : ℕ) → 1 ≤ k → n * k ≤ a → n ≤ a / k
 le-quotient n k a h w = elim (cases_lt (a / k) n) [
-    inr v ↦ v
-    | inl v ↦ absurd (let c : (a / k + 1) * k ≤ n * k = mul-le-mul_right k (omega arith) in
-        let d : (a / k + 1) * k ≡ a / k * k + k = omega arith in omega (arith, lt-div-mul-add {a = a} {b = k} h)) ]
+  | inr v ↦ v
+  | inl v ↦ absurd (let c : (a / k + 1) * k ≤ n * k = mul-le-mul_right k (omega arith) in
+      let d : (a / k + 1) * k ≡ a / k * k + k = omega arith in omega (arith, lt-div-mul-add {a = a} {b = k} h))
+]
 
 pub cells-bound : (i : Inst) (r : Region) (n : ℕ) → IsOrdered r → EllAll i r n → n ≤ area r / (i.long * i.short)
 cells-bound i r n o h = le-quotient n (i.long * i.short) (area r) (case-some i) (number-area i o h)
@@ -43,31 +44,41 @@ base-bound i r o = go (is_rectangle r) refl where
 
 written-region : (i : Inst) (r : Region) → IsRegion i r → IsRegion i (written r)
 written-region i r g = elim (written-cases r) [
-    inl e ↦ subst (IsRegion i) (sym e) g
-    | inr e ↦ subst (IsRegion i) (sym e.1) (record {
-        ordered = (le_refl _, le_refl _); big_x = sides-sum_x i r g; big_y = sides-sum_y i r g; small_x = sides-sum_x i r g; small_y = sides-sum_y i r g }) ]
+  | inl e ↦ subst (IsRegion i) (sym e) g
+  | inr e ↦ subst (IsRegion i) (sym e.1) (record {
+    ordered = (le_refl _, le_refl _);
+    big_x = sides-sum_x i r g;
+    big_y = sides-sum_y i r g;
+    small_x = sides-sum_x i r g;
+    small_y = sides-sum_y i r g;
+  })
+]
 
 written-wide : (r : Region) → IsOrdered r → (written r).big_x ≤ r.big_x
 written-wide r o = elim (written-cases r) [
-    inl e ↦ rw e (le_refl _)
-    | inr e ↦ rw e.1 (side-le_x r o) ]
+  | inl e ↦ rw e (le_refl _)
+  | inr e ↦ rw e.1 (side-le_x r o)
+]
 
 written-tall : (r : Region) → IsOrdered r → (written r).big_y ≤ r.big_y
 written-tall r o = elim (written-cases r) [
-    inl e ↦ rw e (le_refl _)
-    | inr e ↦ rw e.1 (side-le_y r o) ]
+  | inl e ↦ rw e (le_refl _)
+  | inr e ↦ rw e.1 (side-le_y r o)
+]
 
 pub fits-written : (q : Sides) (r : Region) → Fits q r → Fits q (written r)
 fits-written q r f = record {
   region = written-region q.inst r f.region;
   wide = le_trans (written-wide r f.region.ordered) f.wide;
-  tall = le_trans (written-tall r f.region.ordered) f.tall }
+  tall = le_trans (written-tall r f.region.ordered) f.tall;
+}
 
 pub fits-rounded : (q : Sides) (r p : Region) → IsOrdered r → r.big_x ≤ q.inst.l_side → r.big_y ≤ q.inst.w_side → IsRounded q.inst r p → Fits q p
 fits-rounded q r p o w v h = record {
   region = rounded-region q.inst r p o h;
   wide = le_trans h.big_x.normal.within w;
-  tall = le_trans h.big_y.normal.within v }
+  tall = le_trans h.big_y.normal.within v;
+}
 
 -- ---- the parts of a cut are no larger than the region
 
@@ -108,13 +119,15 @@ module _ (q : Sides) (r : Region) (f : Fits q r) (cut : Cut) (p s : Region) (h :
   fits-first = record {
     region = first-region q.inst r p s cut f.region.ordered h;
     wide = le_trans h.first.big_x.normal.within (raw-fits_1 q r cut f h.lawful).0;
-    tall = le_trans h.first.big_y.normal.within (raw-fits_1 q r cut f h.lawful).1 }
+    tall = le_trans h.first.big_y.normal.within (raw-fits_1 q r cut f h.lawful).1;
+  }
 
   pub fits-second : Fits q s
   fits-second = record {
     region = second-region q.inst r p s cut f.region.ordered h;
     wide = le_trans h.second.big_x.normal.within (raw-fits_2 q r cut f h.lawful).0;
-    tall = le_trans h.second.big_y.normal.within (raw-fits_2 q r cut f h.lawful).1 }
+    tall = le_trans h.second.big_y.normal.within (raw-fits_2 q r cut f h.lawful).1;
+  }
 
   -- ---- a part of which more must be known
 

@@ -1,21 +1,19 @@
 -- The root of a search.
-use Rattle.std.proofs.Common.{◌≡◌, ◌≤◌, ◌<◌, ◌+◌, ℕ, List, [], Option, true, false, Contains, length, refl, ap, sym, subst, ◌∙◌, arith, inl, inr}
+use Rattle.std.proofs.Common.{◌≡◌, ◌≤◌, ◌<◌, ℕ, [], refl, ap, sym, subst, ◌∙◌, arith}
 use Rattle.std.proofs.lemmas.Bool.{eq-eqb}
 use Rattle.lru.proofs.Splits.{Contains-nil}
 use Rattle.block_tree.specs.declared.regions.Region.{Region}
 use Rattle.l_patterns.specs.declared.sides.Sides.{Sides}
-use Rattle.l_patterns.specs.declared.knowledge.Key.{Key}
 use Rattle.l_patterns.specs.declared.knowledge.Known.{Known}
-use Rattle.l_patterns.specs.declared.knowledge.Built.{Built}
 use Rattle.l_patterns.specs.declared.knowledge.Search.{Search}
 use Rattle.l_patterns.specs.declared.trying.Frame.{Frame}
-use Rattle.block_tree.specs.Regions.{is_rectangle, side_x, side_y, rectangle}
+use Rattle.block_tree.specs.Regions.{side_x, side_y, rectangle}
 use Rattle.block_tree.specs.Trees.{uniform}
-use Rattle.block_tables.specs.Numbers.{RoundsTo, Greatest}
+use Rattle.block_tables.specs.Numbers.{Greatest}
 use Rattle.block_tables.proofs.EntryLemmas.{down-one}
 use Rattle.l_patterns.specs.Ells.{EllAll, Reach, root, written, IsGreatestEll, IsAtLeastUniform}
 use Rattle.l_patterns.specs.Cuts.{AreSidesOf, Fits}
-use Rattle.l_patterns.specs.States.{base, AreBounds, Stands, IsBuilt, IsRemembered, nth_built, region_of, Tried, IsSearch, IsFrame, IsGo, IsRoot, IsKnown}
+use Rattle.l_patterns.specs.States.{base, AreBounds, Tried, IsSearch, IsFrame, IsGo, IsRoot, IsKnown}
 use Rattle.l_patterns.proofs.MemoLemmas.{stands-reaches}
 use Rattle.l_patterns.proofs.PartLemmas.{base-is}
 use Rattle.l_patterns.proofs.EllLemmas.{rectangle-is}
@@ -31,7 +29,8 @@ root-frame q r k h b w = record {
   reach = root-reach q r h;
   some = omega (arith, w, b.cells);
   above = omega (arith, w, b.from);
-  tried = λ j v cut n. absurd (omega (arith, v)) }
+  tried = λ j v cut n. absurd (omega (arith, v));
+}
 
 pub root-fits : (q : Sides) (r : Region) → IsRoot q r → Fits q r
 root-fits q r h = reach-fits q (root-reach q r h)
@@ -40,7 +39,8 @@ root-fits q r h = reach-fits q (root-reach q r h)
 pub nothing-known : (q : Sides) (s : Search) → s.built.items ≡ [] → s.memo.entries ≡ [] → IsSearch q s
 nothing-known q s b m = record {
   built = rw b (λ j w. absurd (omega (arith, w)));
-  memo = rw m (λ e c. absurd (Contains-nil e c)) }
+  memo = rw m (λ e c. absurd (Contains-nil e c));
+}
 
 written-rectangle : (a b : ℕ) → written (rectangle a b) ≡ rectangle a b
 written-rectangle a b = rw (eq-eqb a a refl) refl
@@ -68,7 +68,7 @@ at-least-uniform q r t k w = λ a b u v.
     let ea : t.a ≡ a = down-one q.inst q.inst.l_side t.a a t.down_x u in
     let eb : t.b ≡ b = down-one q.inst q.inst.w_side t.b b t.down_y v in
     let e : base q.inst r ≡ uniform q.inst a b =
-      ap (base q.inst) t.is ∙ (base-is q.inst (rectangle t.a t.b) (rectangle-is t.a t.b) ∙ rw (same-side_x t.a t.b, same-side_y t.a t.b, ea, eb) refl) in
+    ap (base q.inst) t.is ∙ (base-is q.inst (rectangle t.a t.b) (rectangle-is t.a t.b) ∙ rw (same-side_x t.a t.b, same-side_y t.a t.b, ea, eb) refl) in
     omega (arith, e, w.from)
 
 -- ---- the pending regions

@@ -36,9 +36,10 @@ nth-unique q r k a b (by_k4 j h w e) (by_k4 j' h' w' e') = let same : j ≡ j' =
 
 pub tried-more : (q : Sides) (r : Region) (need k : ℕ) (cut : Cut) → Tried q r need k → IsNth q r k cut → Fails q r need cut → Tried q r need (k + 1)
 tried-more q r need k cut t h f = λ j w c n. elim (cases_lt j k) [
-    inl v ↦ t j v c n
-    | inr v ↦ let e : j ≡ k = omega arith in
-        subst (λ z. Fails q r need z) (nth-unique q r k cut c h (subst (λ z. IsNth q r z c) e n)) f ]
+  | inl v ↦ t j v c n
+  | inr v ↦ let e : j ≡ k = omega arith in
+      subst (λ z. Fails q r need z) (nth-unique q r k cut c h (subst (λ z. IsNth q r z c) e n)) f
+]
 
 -- where all cuts were tried, no number gives what is wanted
 pub failed : (q : Sides) → AreSidesOf q → (f : Frame) → IsFrame q f → (upto : ℕ) → cut_count q f.region ≤ upto → Tried q f.region f.need upto
@@ -47,8 +48,8 @@ failed q g f h upto w t n a =
     let r = f.region in
     let above = h.above in
     let k = bounded q.inst r h.fits.region h.some (f.need - 1)
-      (λ e. let b : base q.inst r ≡ uniform q.inst (side_x r) (side_y r) = rw e refl in
-        omega (arith, above, b))
-      (λ cut p s d u v x y c1 c2. let i = indexed q r g h.fits cut d.lawful d.normal in
-        omega (arith, t i.0 (omega (arith, i.1, w)) cut i.2 p s d u v x y c1 c2)) a (inl refl) in
+    (λ e. let b : base q.inst r ≡ uniform q.inst (side_x r) (side_y r) = rw e refl in
+    omega (arith, above, b))
+    (λ cut p s d u v x y c1 c2. let i = indexed q r g h.fits cut d.lawful d.normal in
+    omega (arith, t i.0 (omega (arith, i.1, w)) cut i.2 p s d u v x y c1 c2)) a (inl refl) in
     omega (arith, k, above)

@@ -1,5 +1,5 @@
 -- The tree of what was built.
-use Rattle.std.proofs.Common.{◌≡◌, ℕ, Bool, true, false, ◌⊎◌, ◌+◌, ◌-◌, ◌≤◌, ◌<◌, List, [], ◌∷◌, Option, Some, None, length, slice_index_or, refl, ap, ap₂, sym, ◌∙◌, subst, arith, inl, inr}
+use Rattle.std.proofs.Common.{◌≡◌, ℕ, true, false, ◌+◌, ◌<◌, List, [], ◌∷◌, Option, Some, None, length, slice_index_or, refl, ap, ap₂, sym, ◌∙◌, subst, arith, inl, inr}
 use Rattle.std.specs.Option.{option_map_or}
 use Rattle.std.proofs.lemmas.Bool.{eq-eqb}
 use Rattle.std.proofs.lemmas.List.{get_or_default}
@@ -13,11 +13,10 @@ use Rattle.block_tree.specs.declared.nodes.Node.{Node}
 use Rattle.block_tree.specs.declared.nodes.Block.TheVariants as block
 use Rattle.block_tree.specs.Regions.{region as region', IsOrdered, is_rectangle, side_x, side_y, rectangle}
 use Rattle.block_tree.specs.Parts.{ell_parts}
-use Rattle.block_tree.specs.Trees.{uniform, grid_cases, held_count, IsLawful, AreLawful, IsTree}
+use Rattle.block_tree.specs.Trees.{uniform, grid_cases, IsLawful, AreLawful, IsTree}
 use Rattle.block_tree.proofs.RowLemmas.{held-ell, ell-lawful}
 use Rattle.l_patterns.specs.declared.sides.Sides.{Sides}
 use Rattle.l_patterns.specs.declared.knowledge.Built.{Built}
-use Rattle.l_patterns.specs.declared.knowledge.Held.{Held}
 use Rattle.l_patterns.specs.Ells.{IsSplit, written}
 use Rattle.l_patterns.specs.Cuts.{Fits}
 use Rattle.l_patterns.specs.States.{base, none, nth_built, Stands, AreParts, IsBuilt, AreBuilt, Makes}
@@ -28,11 +27,12 @@ use Rattle.l_patterns.proofs.PartLemmas.{base-is, base-not, fits-first, fits-sec
 
 base-written : (i : Inst) (r : Region) → base i (written r) ≡ base i r
 base-written i r = elim (written-cases r) [
-    inl e ↦ ap (λ (z : Region). base i z) e
-    | inr e ↦
-        let s = written-same r e.0 in
-        let u : uniform i (side_x (rectangle (side_x r) (side_y r))) (side_y (rectangle (side_x r) (side_y r))) ≡ uniform i (side_x r) (side_y r) = sym (ap₂ (uniform i) s.x s.y) in
-        ap (λ (z : Region). base i z) e.1 ∙ (base-is i (rectangle (side_x r) (side_y r)) s.of_p ∙ (u ∙ sym (base-is i r e.0))) ]
+  | inl e ↦ ap (λ (z : Region). base i z) e
+  | inr e ↦
+      let s = written-same r e.0 in
+      let u : uniform i (side_x (rectangle (side_x r) (side_y r))) (side_y (rectangle (side_x r) (side_y r))) ≡ uniform i (side_x r) (side_y r) = sym (ap₂ (uniform i) s.x s.y) in
+      ap (λ (z : Region). base i z) e.1 ∙ (base-is i (rectangle (side_x r) (side_y r)) s.of_p ∙ (u ∙ sym (base-is i r e.0)))
+]
 
 pub grid-makes : (i : Inst) (r : Region) (way : Way) → IsOrdered r → is_rectangle r ≡ true → IsLawfulWay i way → grid_cases i way (side_x r) (side_y r) ≡ uniform i (side_x r) (side_y r)
     → Makes i r (base i (written r)) (record { region = r; block = block.Grid way })
@@ -45,8 +45,9 @@ empty-makes i r o h = record { region = refl; lawful = o; count = sym (base-writ
 
 split-back : (i : Inst) (r : Region) (cut : Cut) (p s : Region) → IsSplit i (written r) cut p s → IsSplit i r cut p s
 split-back i r cut p s h = elim (written-cases r) [
-    inl e ↦ subst (λ (z : Region). IsSplit i z cut p s) e h
-    | inr e ↦ split-same i (rectangle (side_x r) (side_y r)) r cut p s (flipped _ _ (written-same r e.0)) (subst (λ (z : Region). IsSplit i z cut p s) e.1 h) ]
+  | inl e ↦ subst (λ (z : Region). IsSplit i z cut p s) e h
+  | inr e ↦ split-same i (rectangle (side_x r) (side_y r)) r cut p s (flipped _ _ (written-same r e.0)) (subst (λ (z : Region). IsSplit i z cut p s) e.1 h)
+]
 
 are-lawful : (i : Inst) (r : Region) (cut : Cut) (p s : Region) → IsSplit i r cut p s → (a b : Node) → a.region ≡ p → b.region ≡ s
     → IsLawful i a.region a.block → IsLawful i b.region b.block → AreLawful i (ell_parts r cut) (a ∷ b ∷ [])
@@ -58,8 +59,12 @@ are-lawful i r (K4 c d) p s h a b e k u v = (rw e (rounded-within i _ p h.first)
 -- what is read at a place within the list
 abbrev pub blank : Built
 blank = record {
-  region = region' 0 0 0 0; cut = K1 0 0 0; count = 0;
-  first = record { region = region' 0 0 0 0; built = None; count = 0 }; second = record { region = region' 0 0 0 0; built = None; count = 0 } }
+  region = region' 0 0 0 0;
+  cut = K1 0 0 0;
+  count = 0;
+  first = record { region = region' 0 0 0 0; built = None; count = 0 };
+  second = record { region = region' 0 0 0 0; built = None; count = 0 };
+}
 
 pub read-built : (bs : List Built) (j : ℕ) → j < length bs → nth_built bs j ≡ slice_index_or bs j blank
 read-built bs j h = get_or_default bs j none blank h
@@ -115,8 +120,9 @@ module _ (q : Sides) (bs : List Built) (h : AreBuilt q bs) (r : Region) (f : Fit
       record {
         region = refl;
         lawful = ell-lawful q.inst r b.cut (x ∷ y ∷ []) f.region.ordered split.lawful
-          (are-lawful q.inst r b.cut b.first.region b.second.region split x y u.region v.region u.lawful v.lawful);
-        count = held-ell q.inst r b.cut (x ∷ y ∷ []) ∙ omega (arith, u.count, v.count, at.sum, count) }
+            (are-lawful q.inst r b.cut b.first.region b.second.region split x y u.region v.region u.lawful v.lawful);
+        count = held-ell q.inst r b.cut (x ∷ y ∷ []) ∙ omega (arith, u.count, v.count, at.sum, count);
+      }
 
 -- ---- the whole tree
 

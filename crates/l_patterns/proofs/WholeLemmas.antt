@@ -1,14 +1,10 @@
 -- A part with as many cells as the region is the region itself.
-use Rattle.std.proofs.Common.{◌≡◌, ℕ, zero, suc, ◌⊎◌, ◌+◌, ◌-◌, ◌*◌, ◌≤◌, ◌<◌, true, false, refl, ap, sym, ◌∙◌, subst, arith, inl, inr}
+use Rattle.std.proofs.Common.{◌≡◌, ℕ, ◌⊎◌, ◌+◌, ◌-◌, ◌*◌, ◌≤◌, ◌<◌, ap, arith, inl, inr}
 use Rattle.std.proofs.lemmas.Bool.{cases_lt}
-use Rattle.std.proofs.Math.Nat.{add-mul, mul-add, mul-le-mul_left, mul-le-mul_right}
-use Rattle.plan_geometry.specs.declared.instances.Inst.{Inst}
+use Rattle.std.proofs.Math.Nat.{add-mul, mul-le-mul_left, mul-le-mul_right}
 use Rattle.block_tree.specs.declared.regions.Region.{Region}
-use Rattle.block_tree.specs.declared.regions.Cut.{Cut}
-use Rattle.block_tree.specs.declared.regions.Cut.TheVariants.{K1, K2, K3, K4}
-use Rattle.block_tree.specs.Regions.{Within, IsOrdered, is_rectangle, region, rectangle, side_x, side_y, area}
-use Rattle.block_tree.specs.Parts.{IsCut, ell_parts}
-use Rattle.block_tree.proofs.AreaLemmas.{area-within, area-sides, area-rectangle}
+use Rattle.block_tree.specs.Regions.{Within, IsOrdered, region, rectangle, area}
+use Rattle.block_tree.proofs.AreaLemmas.{area-within, area-rectangle}
 
 -- an L-region that is no rectangle
 pub record IsEll (r : Region) : Type 0 where
@@ -36,8 +32,8 @@ area-other bx by' sx sy h k =
     let ex : sx + (bx - sx) ≡ bx = omega arith in
     let ey : sy + (by' - sy) ≡ by' = omega arith in
     rw (ex, ey) at (poly sx (bx - sx) sy (by' - sy)) where
-  poly : (s u t v : ℕ) → s * (t + v) + u * t ≡ s * v + (s + u) * t
-  poly s u t v = omega arith
+      poly : (s u t v : ℕ) → s * (t + v) + u * t ≡ s * v + (s + u) * t
+      poly s u t v = omega arith
 
 less-small_x : (r p : Region) → IsOrdered r → IsEll p → Within r p → r.small_x < p.small_x → area r < area p
 less-small_x r p o e w h =
@@ -78,11 +74,23 @@ less-big_y r p o e w s h =
 -- a region within an L-region that has no fewer cells has the same four numbers
 pub same-area : (r p : Region) → IsOrdered r → IsEll p → Within r p → area p ≤ area r → Equal r p
 same-area r p o e w h =
-    elim (cases_lt r.small_x p.small_x) [ inl a ↦ absurd (omega (arith, less-small_x r p o e w a)) | inr a ↦
-      elim (cases_lt r.small_y p.small_y) [ inl b ↦ absurd (omega (arith, less-small_y r p o e w b)) | inr b ↦
-        elim (cases_lt r.big_x p.big_x) [ inl c ↦ absurd (omega (arith, less-big_x r p o e w (omega arith) c)) | inr c ↦
-          elim (cases_lt r.big_y p.big_y) [ inl d ↦ absurd (omega (arith, less-big_y r p o e w (omega arith) d)) | inr d ↦
-            record { big_x = omega arith; big_y = omega arith; small_x = omega arith; small_y = omega arith } ] ] ] ]
+    elim (cases_lt r.small_x p.small_x) [
+      | inl a ↦ absurd (omega (arith, less-small_x r p o e w a))
+      | inr a ↦
+          elim (cases_lt r.small_y p.small_y) [
+            | inl b ↦ absurd (omega (arith, less-small_y r p o e w b))
+            | inr b ↦
+                elim (cases_lt r.big_x p.big_x) [
+                  | inl c ↦ absurd (omega (arith, less-big_x r p o e w (omega arith) c))
+                  | inr c ↦
+                      elim (cases_lt r.big_y p.big_y) [
+                        | inl d ↦ absurd (omega (arith, less-big_y r p o e w (omega arith) d))
+                        | inr d ↦
+                            record { big_x = omega arith; big_y = omega arith; small_x = omega arith; small_y = omega arith }
+                      ]
+                ]
+          ]
+    ]
 
 -- the mirrored part of K3 and of K4 has fewer cells
 pub k3-second : (r : Region) (d h : ℕ) → IsEll r → d ≤ r.big_x → h ≤ r.small_y → area (region r.big_x r.small_y (r.big_x - d) h) < area r
@@ -114,11 +122,15 @@ k1-first a b x1 x2 y1 pa pb h1 h2 h3 h =
     let m : x2 * b ≡ x1 * b + (x2 - x1) * b = rw s at (add-mul x1 (x2 - x1) b) in
     let n : (x2 - x1) * y1 ≤ (x2 - x1) * b = mul-le-mul_left (x2 - x1) h3 in
     let e : x2 ≡ a = elim (cases_lt x2 a) [ inl w ↦ absurd (omega (arith, mul-lt x2 a b w pb)) | inr w ↦ omega arith ] in
-    let t : x2 * b ≡ a * b = ap (λ z. z * b) e in
-    (e, elim (cases_lt y1 b) [
-        inr w ↦ inr (omega arith)
+    let t : x2 * b ≡ a * b = ap (λ z. z * b) e in (
+      e,
+      elim (cases_lt y1 b) [
+        | inr w ↦ inr (omega arith)
         | inl w ↦ elim (cases_lt x1 x2) [
-          inr v ↦ inl (omega arith)
+          | inr v ↦ inl (omega arith)
           | inl v ↦ absurd (let c = mul-lt y1 b (x2 - x1) w (omega arith) in
               let f1 : y1 * (x2 - x1) ≡ (x2 - x1) * y1 = omega arith in
-              let f2 : b * (x2 - x1) ≡ (x2 - x1) * b = omega arith in omega arith) ] ])
+              let f2 : b * (x2 - x1) ≡ (x2 - x1) * b = omega arith in omega arith)
+        ]
+      ],
+    )

@@ -63,7 +63,7 @@ cut_count q r = if is_rectangle r then count_k1 q r else count_k2 q r + count_k3
 abbrev pub nth_k1 : Sides → Region → ℕ → Cut
 nth_k1 q r k =
     K1 (point q.x ((k / count_up_to q.y (side_y r)) / count_up_to q.x (side_x r)))
-      (point q.x ((k / count_up_to q.y (side_y r)) % count_up_to q.x (side_x r))) (point q.y (k % count_up_to q.y (side_y r)))
+    (point q.x ((k / count_up_to q.y (side_y r)) % count_up_to q.x (side_x r))) (point q.y (k % count_up_to q.y (side_y r)))
 
 abbrev pub nth_k2 : Sides → Region → ℕ → Cut
 nth_k2 q r k = K2 (point q.x (k / count_up_to q.y r.small_y)) (point q.y (k % count_up_to q.y r.small_y))

@@ -5,7 +5,7 @@ use Rattle.block_tree.specs.declared.regions.Region.{Region}
 use Rattle.block_tree.specs.declared.regions.Cut.{Cut}
 use Rattle.block_tree.specs.declared.regions.Cut.TheVariants.{K1, K2, K3, K4}
 use Rattle.block_tree.specs.declared.parts.Part.{Part}
-use Rattle.block_tree.specs.Regions.{IsOrdered, is_rectangle, side_x, side_y, rectangle, area}
+use Rattle.block_tree.specs.Regions.{is_rectangle, side_x, side_y, rectangle, area}
 use Rattle.block_tree.specs.Parts.{IsCut, ell_parts}
 use Rattle.block_tree.specs.Trees.{uniform}
 use Rattle.block_tables.specs.Numbers.{RoundsTo, IsSum, Greatest}

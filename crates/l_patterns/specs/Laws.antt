@@ -1,5 +1,5 @@
 -- The laws of the numbers of L-regions.
-use Rattle.std.specs.Prelude.{ℕ, ◌+◌, ◌*◌, ◌≤◌, ◌<◌, ◌≡◌, ◌⊎◌, true, List, length}
+use Rattle.std.specs.Prelude.{ℕ, ◌+◌, ◌*◌, ◌≤◌, ◌<◌, ◌≡◌, true}
 use Rattle.plan_geometry.specs.declared.instances.Inst.{Inst}
 use Rattle.block_tree.specs.declared.regions.Region.{Region}
 use Rattle.block_tree.specs.declared.regions.Cut.{Cut}
@@ -7,7 +7,7 @@ use Rattle.block_tree.specs.Regions.{IsOrdered, is_rectangle, side_x, side_y, ar
 use Rattle.block_tree.specs.Parts.{IsCut}
 use Rattle.block_tree.specs.Trees.{uniform}
 use Rattle.l_patterns.specs.declared.sides.Sides.{Sides}
-use Rattle.l_patterns.specs.Ells.{EllAll, IsSplit, IsNormalCut, HasMore}
+use Rattle.l_patterns.specs.Ells.{EllAll, IsSplit, IsNormalCut}
 use Rattle.l_patterns.specs.Cuts.{IsRegion, Fits, AreSidesOf, cut_count, IsNth}
 
 -- the law of cells: the cells of so many cases are at most those of the region
@@ -29,4 +29,3 @@ WholePartsLaw = (I : Inst) (r : Region) (n : ℕ) → IsRegion I r → 0 < area 
 abbrev pub NumberingLaw : Type 0
 NumberingLaw = (q : Sides) (r : Region) (cut : Cut) → AreSidesOf q → Fits q r → IsCut r cut → IsNormalCut q.inst cut
     → (k : ℕ) × (k < cut_count q r) × IsNth q r k cut
-

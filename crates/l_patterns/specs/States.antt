@@ -1,5 +1,5 @@
 -- What the search knows of regions, and what its steps find.
-use Rattle.std.specs.Prelude.{ℕ, Contains, if◌then◌else◌, ◌+◌, ◌≤◌, ◌<◌, ◌≡◌, true, false, List, [], ◌∷◌, length, slice_index_or, Option, Some, None, MatchOption}
+use Rattle.std.specs.Prelude.{ℕ, Contains, if◌then◌else◌, ◌+◌, ◌≤◌, ◌<◌, ◌≡◌, List, length, slice_index_or, Option, None, MatchOption}
 use Rattle.plan_geometry.specs.declared.instances.Inst.{Inst}
 use Rattle.block_tree.specs.declared.regions.Region.{Region}
 use Rattle.block_tree.specs.declared.regions.Cut.{Cut}
@@ -23,7 +23,7 @@ use Rattle.l_patterns.specs.declared.stepping.Stop.{Stop}
 use Rattle.l_patterns.specs.declared.stepping.Stop.TheVariants.{Done, Waits}
 use Rattle.l_patterns.specs.declared.running.Next.{Next}
 use Rattle.l_patterns.specs.declared.running.Next.TheVariants.{Try, Closed}
-use Rattle.l_patterns.specs.Ells.{EllAll, IsSplit, written, Reach, HasMore}
+use Rattle.l_patterns.specs.Ells.{EllAll, IsSplit, written, Reach}
 use Rattle.l_patterns.specs.Cuts.{Fits, IsNth}
 
 -- ---- which cuts were tried
@@ -59,8 +59,12 @@ pub record AreBounds (I : Inst) (r : Region) (k : Known) : Type 0 where
 
 abbrev pub none : Built
 none = record {
-  region = rectangle 0 0; cut = K2 0 0; count = 0;
-  first = record { region = rectangle 0 0; built = None; count = 0 }; second = record { region = rectangle 0 0; built = None; count = 0 } }
+  region = rectangle 0 0;
+  cut = K2 0 0;
+  count = 0;
+  first = record { region = rectangle 0 0; built = None; count = 0 };
+  second = record { region = rectangle 0 0; built = None; count = 0 };
+}
 
 abbrev pub nth_built : List Built → ℕ → Built
 nth_built bs j = slice_index_or bs j none

@@ -20,7 +20,7 @@ use std::num::NonZeroUsize;
 // How many regions the memo remembers.
 const MEMO_ENTRIES: usize = 262_144;
 
-/// The limit of a search, in regions, where none is asked for.
+// The limit of a search, in regions, where none is asked for.
 const LIMIT: u32 = 300_000;
 
 /// The best tree of L-regions that a search found, and whether no such tree of the pallet, its sides
@@ -55,12 +55,7 @@ fn new_search(alloc: Global) -> Result<Search, Memory>
 }
 
 // The best tree that a search from the root over at most so many regions finds.
-fn search_from(
-    alloc: Global,
-    q: Sides<'_>,
-    root: Region,
-    most: usize,
-) -> Result<EllAnswer, Memory>
+fn search_from(alloc: Global, q: Sides<'_>, root: Region, most: usize) -> Result<EllAnswer, Memory>
     requires sides { AreSidesOf q }
     requires root { IsRoot q root }
     ensures inst { IfOk result (λ a. a.tree.inst ≡ q.entry.inst) }
@@ -132,12 +127,7 @@ pub fn ell_search_within(
 /// The best tree of L-regions of the pallet (after Lins, Lins and Morabito 2003, and Birgin, Lobato and
 /// Morabito 2010) that a search over at most 262,144 regions finds. `px` and `py` are the points of the two
 /// sides, which have at most 4,000 pairs of normal places, and at most 200 places each.
-pub fn ell_search(
-    alloc: Global,
-    inst: Inst,
-    px: &Points,
-    py: &Points,
-) -> Result<EllAnswer, Memory>
+pub fn ell_search(alloc: Global, inst: Inst, px: &Points, py: &Points) -> Result<EllAnswer, Memory>
     requires px { ArePointsOf Axis.X inst px.now }
     requires py { ArePointsOf Axis.Y inst py.now }
     requires size { IsSearchSize px.now.normal py.now.normal }

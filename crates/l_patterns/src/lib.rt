@@ -15,7 +15,6 @@ mod trying;
 
 pub use answers::{EllAnswer, ell_search, ell_search_within, is_search_size};
 pub use laws::{cuts_are_numbered, ell_numbers_fit_in_cells, whole_parts_give_nothing_greater};
-pub use sides::{Side, Sides};
 
 #[cfg(test)]
 mod tests {

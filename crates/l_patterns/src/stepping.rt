@@ -14,7 +14,11 @@ use plan_memory::Memory;
 #[derive(Clone, Copy)]
 pub enum Stop {
     Done,
-    Waits { region: Region, need: u32, at: usize },
+    Waits {
+        region: Region,
+        need: u32,
+        at: usize,
+    },
 }
 
 // Writes that no number of the region is as great as was wanted.

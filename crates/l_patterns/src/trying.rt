@@ -32,8 +32,16 @@ pub enum Move {
 #[derive(Clone, Copy)]
 pub enum Outcome {
     Failed,
-    Taken { cut: Cut, first: Held, second: Held },
-    Pushed { at: usize, region: Region, need: u32 },
+    Taken {
+        cut: Cut,
+        first: Held,
+        second: Held,
+    },
+    Pushed {
+        at: usize,
+        region: Region,
+        need: u32,
+    },
 }
 
 // What comes of a cut into two smaller parts.
@@ -132,7 +140,11 @@ pub fn scan(q: Sides<'_>, s: &Search, f: Frame) -> Outcome
         match try_cut(q, s, f.region, f.need, cut) {
             Move::Skip => {}
             Move::Take { first, second } => return Outcome::Taken { cut, first, second },
-            Move::Go { region, need } => return Outcome::Pushed { at: k, region, need },
+            Move::Go { region, need } => return Outcome::Pushed {
+                at: k,
+                region,
+                need,
+            },
         }
     }
     Outcome::Failed

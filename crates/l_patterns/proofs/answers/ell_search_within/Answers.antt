@@ -1,4 +1,4 @@
-use Rattle.std.proofs.Common.{◌≤◌, ◌*◌, length, min, arith}
+use Rattle.std.proofs.Common.{arith}
 use Rattle.l_patterns.proofs.answers.ell_search_within.Goals as goal
 
 pub returns-clause-few : goal.returns-clause-few

@@ -13,10 +13,10 @@ returns-clause-best c =
     let t = c.in-Some.tree in
     let k = c.in_ok-ending.ending.known in
     let e : held_count t.inst t.root.region t.root.block ≡ k.low =
-      ap (λ (z : Inst). held_count z t.root.region t.root.block) c.in-Some.ensures.inst
-      ∙ (ap (λ (n : Node). held_count q.inst n.region n.block) c.in-Some.ensures.root ∙ c.in_ok-node.ensures.count) in
+    ap (λ (z : Inst). held_count z t.root.region t.root.block) c.in-Some.ensures.inst
+    ∙ (ap (λ (n : Node). held_count q.inst n.region n.block) c.in-Some.ensures.root ∙ c.in_ok-node.ensures.count) in
     λ done. subst (IsGreatestEll q.inst) (sym e)
-      (greatest-of q c.requires.sides c.run.new.s c.in_ok-ending.ensures.search c.args.root c.requires.root k c.in_ok-ending.ensures.known (c.in_ok-ending.ensures.met done))
+    (greatest-of q c.requires.sides c.run.new.s c.in_ok-ending.ensures.search c.args.root c.requires.root k c.in_ok-ending.ensures.known (c.in_ok-ending.ensures.met done))
 
 pub returns-clause-uniform : goal.returns-clause-uniform
 returns-clause-uniform c =
@@ -24,8 +24,8 @@ returns-clause-uniform c =
     let t = c.in-Some.tree in
     let k = c.in_ok-ending.ending.known in
     let e : held_count t.inst t.root.region t.root.block ≡ k.low =
-      ap (λ (z : Inst). held_count z t.root.region t.root.block) c.in-Some.ensures.inst
-      ∙ (ap (λ (n : Node). held_count q.inst n.region n.block) c.in-Some.ensures.root ∙ c.in_ok-node.ensures.count) in
+    ap (λ (z : Inst). held_count z t.root.region t.root.block) c.in-Some.ensures.inst
+    ∙ (ap (λ (n : Node). held_count q.inst n.region n.block) c.in-Some.ensures.root ∙ c.in_ok-node.ensures.count) in
     subst (IsAtLeastUniform q.inst) (sym e) (at-least-uniform q c.args.root c.requires.root k c.in_ok-ending.ensures.known.bounds)
 
 pub returns-clause-few : goal.returns-clause-few

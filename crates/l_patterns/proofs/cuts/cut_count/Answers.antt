@@ -1,4 +1,4 @@
-use Rattle.std.proofs.Common.{arith, ◌≡◌, ◌≤◌, ◌+◌, ◌*◌, ◌^◌}
+use Rattle.std.proofs.Common.{arith, ◌≤◌, ◌*◌}
 use Rattle.std.proofs.Math.Nat.{mul-le-mul, le_trans}
 use Rattle.block_tree.proofs.AreaLemmas.{side-le_x, side-le_y}
 use Rattle.l_patterns.proofs.NumberLemmas.{few-up-to}

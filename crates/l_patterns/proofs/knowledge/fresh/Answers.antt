@@ -1,4 +1,4 @@
-use Rattle.std.proofs.Common.{arith, ◌≡◌, ◌≤◌, ◌/◌, ◌*◌}
+use Rattle.std.proofs.Common.{arith, ◌*◌}
 use Rattle.std.proofs.Math.Nat.{div-le_self, le_refl}
 use Rattle.block_tree.specs.Regions.{area}
 use Rattle.l_patterns.specs.States.{base}
@@ -18,4 +18,5 @@ returns-clause-bounds c =
       order = base-bound i r o;
       from = le_refl (base i r);
       cells = d;
-      small = omega (arith, d, e, small) })
+      small = omega (arith, d, e, small);
+    })

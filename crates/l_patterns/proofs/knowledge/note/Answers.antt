@@ -1,7 +1,7 @@
 use Rattle.std.proofs.Common.{◌≡◌, true, ap, sym, subst, ◌∙◌, inl, inr}
 use Rattle.lru.proofs.CallerLemmas.{Contains-put_entries}
 use Rattle.l_patterns.specs.declared.knowledge.Key.{Key}
-use Rattle.l_patterns.specs.States.{key_of, region_of}
+use Rattle.l_patterns.specs.States.{region_of}
 use Rattle.l_patterns.proofs.MemoLemmas.{same-key, same_key, noted}
 use Rattle.l_patterns.proofs.knowledge.note.Goals as goal
 
@@ -16,4 +16,7 @@ returns-clause-search c =
         | inr put ↦ elim put.1 [
           | inl is ↦ noted c.args.q bs r c.args.k c.requires.known e put.0 (ap (λ (z : Key). region_of z) (is ∙ c.key_of-key.ensures))
           | inr under ↦ noted c.args.q bs r c.args.k c.requires.known e put.0
-              (sym (same-key r e.0 (subst (λ (z : Key). same_key z e.0 ≡ true) c.key_of-key.ensures under.2))) ] ] }
+              (sym (same-key r e.0 (subst (λ (z : Key). same_key z e.0 ≡ true) c.key_of-key.ensures under.2)))
+        ]
+      ];
+    }

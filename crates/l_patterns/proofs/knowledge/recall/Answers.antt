@@ -1,8 +1,8 @@
-use Rattle.std.proofs.Common.{◌≡◌, true, sym, subst, length}
+use Rattle.std.proofs.Common.{◌≡◌, true, sym, subst}
 use Rattle.lru.proofs.CallerLemmas.{Contains-lookup}
 use Rattle.block_tree.specs.declared.regions.Region.{Region}
 use Rattle.l_patterns.specs.declared.knowledge.Key.{Key}
-use Rattle.l_patterns.specs.States.{AreBounds, Stands, IsKnown, region_of, key_of}
+use Rattle.l_patterns.specs.States.{IsKnown, key_of}
 use Rattle.l_patterns.proofs.MemoLemmas.{same-key, same_key}
 use Rattle.l_patterns.proofs.knowledge.recall.Goals as goal
 

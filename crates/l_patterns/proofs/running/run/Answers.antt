@@ -1,4 +1,4 @@
-use Rattle.std.proofs.Common.{All, ◌≡◌, ◌++◌, List, [], ◌∷◌, sym, subst}
+use Rattle.std.proofs.Common.{All, List, [], sym, subst}
 use Rattle.std.proofs.lemmas.List.Elements.{All-append, All-cons, All-nil, All-take}
 use Rattle.l_patterns.specs.declared.trying.Frame.{Frame}
 use Rattle.l_patterns.specs.declared.stepping.Stop.{Stop}
@@ -21,4 +21,6 @@ loop-preserved c =
             let one = waiting c.args.q c.in-Try.frame w.in-Waits.at c.in-Try.ensures stop.0 in
             let two = due c.args.q c.in-Try.frame.region w.in-Waits.region w.in-Waits.need stop.1 in
             let first = subst (λ (xs : List Frame). All P xs) (sym w.in_ok-push-in-Waits.ensures.items) (All-append P _ _ rest (All-cons P _ [] one (All-nil P))) in
-            rw w.pending-is (subst (λ (xs : List Frame). All P xs) (sym w.in_ok-push-in-Waits-2.ensures.items) (All-append P _ _ first (All-cons P _ [] two (All-nil P)))) ] }
+            rw w.pending-is (subst (λ (xs : List Frame). All P xs) (sym w.in_ok-push-in-Waits-2.ensures.items) (All-append P _ _ first (All-cons P _ [] two (All-nil P))))
+      ];
+    }

@@ -5,4 +5,5 @@ use Rattle.l_patterns.proofs.running.run.Given as goal
 abbrev pub invariant-loop : goal.invariant-loop
 invariant-loop l = record {
   search : IsSearch l.q l.s;
-  pending : All (IsFrame l.q) l.pending.items }
+  pending : All (IsFrame l.q) l.pending.items;
+}

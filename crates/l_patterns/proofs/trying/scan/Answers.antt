@@ -1,4 +1,4 @@
-use Rattle.std.proofs.Common.{arith, ◌≤◌}
+use Rattle.std.proofs.Common.{arith}
 use Rattle.l_patterns.proofs.ScanLemmas.{tried-more, failed}
 use Rattle.l_patterns.proofs.trying.scan.Goals as goal
 

@@ -1,9 +1,7 @@
-use Rattle.std.proofs.Common.{◌≡◌, ◌<◌, ◌≤◌, ◌+◌, ℕ, sym, subst, arith}
-use Rattle.block_tree.specs.Regions.{area}
+use Rattle.std.proofs.Common.{◌≤◌, ℕ, subst, arith}
 use Rattle.block_tree.specs.declared.regions.Region.{Region}
-use Rattle.l_patterns.specs.Cuts.{Fits}
 use Rattle.l_patterns.specs.Ells.{EllAll, written}
-use Rattle.l_patterns.specs.States.{IsGo, AreBounds}
+use Rattle.l_patterns.specs.States.{AreBounds}
 use Rattle.l_patterns.proofs.PartLemmas.{fits-first, fits-second, fits-written, fails-by, go-first, go-second}
 use Rattle.l_patterns.proofs.trying.weigh_parts.Goals as goal
 
@@ -24,8 +22,8 @@ returns-then-a-b c =
     let x = c.recall-a.result.high in
     let y = c.recall-b.result.high in
     fails-by a.q a.r c.requires.fits a.cut a.first a.second c.requires.parts a.need x y
-      (subst (λ (z : Region). (n : ℕ) → EllAll i z n → n ≤ x) c.written_of-key_1.ensures c.recall-a.ensures.bounds.upper)
-      (subst (λ (z : Region). (n : ℕ) → EllAll i z n → n ≤ y) c.written_of-key_2.ensures c.recall-b.ensures.bounds.upper) c.if-a-b.true
+    (subst (λ (z : Region). (n : ℕ) → EllAll i z n → n ≤ x) c.written_of-key_1.ensures c.recall-a.ensures.bounds.upper)
+    (subst (λ (z : Region). (n : ℕ) → EllAll i z n → n ≤ y) c.written_of-key_2.ensures c.recall-b.ensures.bounds.upper) c.if-a-b.true
 
 pub returns-then-a-b-2 : goal.returns-then-a-b-2
 returns-then-a-b-2 c =
@@ -34,7 +32,7 @@ returns-then-a-b-2 c =
     let v = c.if-a-b-2.true in
     let k : AreBounds a.q.inst (written a.first) c.recall-a.result = subst (λ (z : Region). AreBounds a.q.inst z c.recall-a.result) c.written_of-key_1.ensures c.recall-a.ensures.bounds in
     rw c.written_of-key_1.ensures (go-first a.q a.r c.requires.fits a.cut a.first a.second c.requires.parts _ c.requires.reach c.requires.smaller_first
-      (omega (arith, w, v, k.cells)) (omega (arith, v, k.from)))
+    (omega (arith, w, v, k.cells)) (omega (arith, v, k.from)))
 
 pub returns-then-b-a : goal.returns-then-b-a
 returns-then-b-a c =
@@ -43,7 +41,7 @@ returns-then-b-a c =
     let v = c.if-b-a.true in
     let k : AreBounds a.q.inst (written a.second) c.recall-b.result = subst (λ (z : Region). AreBounds a.q.inst z c.recall-b.result) c.written_of-key_2.ensures c.recall-b.ensures.bounds in
     rw c.written_of-key_2.ensures (go-second a.q a.r c.requires.fits a.cut a.first a.second c.requires.parts _ c.requires.reach c.requires.smaller_second
-      (omega (arith, w, v, k.cells)) (omega (arith, v, k.from)))
+    (omega (arith, w, v, k.cells)) (omega (arith, v, k.from)))
 
 pub returns-else-b-a : goal.returns-else-b-a
 returns-else-b-a c =
@@ -52,4 +50,4 @@ returns-else-b-a c =
     let v = c.if-a-b-2.false in
     let k : AreBounds a.q.inst (written a.second) c.recall-b.result = subst (λ (z : Region). AreBounds a.q.inst z c.recall-b.result) c.written_of-key_2.ensures c.recall-b.ensures.bounds in
     rw c.written_of-key_2.ensures (go-second a.q a.r c.requires.fits a.cut a.first a.second c.requires.parts _ c.requires.reach c.requires.smaller_second
-      (omega (arith, w, v, k.cells)) (omega (arith, w, k.from)))
+    (omega (arith, w, v, k.cells)) (omega (arith, w, k.from)))
