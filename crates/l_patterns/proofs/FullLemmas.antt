@@ -17,8 +17,9 @@ use Rattle.l_patterns.specs.declared.knowledge.Key.{Key}
 use Rattle.l_patterns.specs.declared.knowledge.Known.{Known}
 use Rattle.l_patterns.specs.declared.knowledge.Search.{Search}
 use Rattle.l_patterns.specs.Ells.{Reach, HasMore}
-use Rattle.l_patterns.specs.States.{key_of, region_of, IsSearch}
-use Rattle.l_patterns.proofs.MemoLemmas.{same_key}
+use Rattle.l_patterns.specs.Keys.{same_key, key_of, region_of}
+use Rattle.l_patterns.specs.States.{IsSearch}
+use Rattle.l_patterns.proofs.MemoLemmas.{}
 
 abbrev regions : List (Key × Known) → List Region
 regions es = map (λ (e : Key × Known). region_of e.0) es

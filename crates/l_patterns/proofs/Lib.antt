@@ -8,3 +8,5 @@ pub mod FullLemmas
 pub mod CountLemmas
 pub mod TreeLemmas
 pub mod RootLemmas
+pub mod ProgressLemmas
+pub mod PendingLemmas

@@ -17,7 +17,8 @@ use Rattle.l_patterns.specs.declared.knowledge.Search.{Search}
 use Rattle.l_patterns.specs.declared.trying.Frame.{Frame}
 use Rattle.l_patterns.specs.Ells.{EllAll, by_grid, by_cut, IsSplit, written}
 use Rattle.l_patterns.specs.Cuts.{AreSidesOf, Fits, point}
-use Rattle.l_patterns.specs.States.{Reaches, AreBounds, nth_built, Stands, AreParts, IsBuilt, AreBuilt, key_of, region_of, IsRemembered, IsSearch, IsFrame}
+use Rattle.l_patterns.specs.Keys.{same_key, key_of, region_of}
+use Rattle.l_patterns.specs.States.{Reaches, AreBounds, nth_built, Stands, AreParts, IsBuilt, AreBuilt, IsRemembered, IsSearch, IsFrame}
 use Rattle.l_patterns.proofs.EllLemmas.{or3, written-number}
 use Rattle.l_patterns.proofs.PartLemmas.{base-is, base-not, fits-first, fits-second, fits-written}
 
@@ -26,9 +27,6 @@ use Rattle.l_patterns.proofs.PartLemmas.{base-is, base-not, fits-first, fits-sec
 and-true : (a b : Bool) → (a && b) ≡ true → (a ≡ true) × (b ≡ true)
 and-true true b h = (refl, h)
 and-true false b h = cc
-
-abbrev pub same_key : Key → Key → Bool
-same_key k x = (k.big_x == x.big_x) && ((k.big_y == x.big_y) && ((k.small_x == x.small_x) && (k.small_y == x.small_y)))
 
 pub region-at : (r : Region) (x : Key) → r.big_x ≡ x.big_x → r.big_y ≡ x.big_y → r.small_x ≡ x.small_x → r.small_y ≡ x.small_y → r ≡ region_of x
 region-at r x a b c d =

@@ -11,9 +11,12 @@ use Rattle.block_tree.specs.Parts.{IsCut, ell_parts}
 use Rattle.block_tree.specs.Trees.{uniform}
 use Rattle.block_tree.proofs.AreaLemmas.{side-le_x, side-le_y}
 use Rattle.l_patterns.specs.declared.sides.Sides.{Sides}
+use Rattle.l_patterns.specs.declared.knowledge.Search.{Search}
+use Rattle.l_patterns.specs.Progress.{IsOpen}
 use Rattle.l_patterns.specs.Ells.{EllAll, by_grid, IsSplit, IsRounded, part_at, written, Reach, first_part, second_part}
 use Rattle.l_patterns.specs.Cuts.{IsRegion, Fits}
-use Rattle.l_patterns.specs.States.{Fails, base, IsGo}
+use Rattle.l_patterns.specs.Keys.{base}
+use Rattle.l_patterns.specs.States.{Fails, IsGo}
 use Rattle.l_patterns.proofs.EllLemmas.{first-region, second-region, number-area, number-written, area-written, written-cases, sides-sum_x, sides-sum_y, rounded-unique, rounded-region, case-some}
 
 -- ---- the cells
@@ -131,15 +134,15 @@ module _ (q : Sides) (r : Region) (f : Fits q r) (cut : Cut) (p s : Region) (h :
 
   -- ---- a part of which more must be known
 
-  pub go-first : (n : ℕ) → Reach q.inst r → area p < area r → 0 < area (written p) → base q.inst (written p) < n → IsGo q r (written p) n
-  go-first n w b a k =
+  pub go-first : (t : Search) (n : ℕ) → Reach q.inst r → area p < area r → 0 < area (written p) → base q.inst (written p) < n → IsOpen q.inst t.memo (written p) n → IsGo q t r (written p) n
+  go-first t n w b a k o =
       let e = area-written p fits-first.region.ordered in
-      record { fits = fits-written q p fits-first; reach = first_part w h (omega arith) b refl; some = a; above = k; falls = omega arith }
+      record { fits = fits-written q p fits-first; reach = first_part w h (omega arith) b refl; some = a; above = k; falls = omega arith; opens = o }
 
-  pub go-second : (n : ℕ) → Reach q.inst r → area s < area r → 0 < area (written s) → base q.inst (written s) < n → IsGo q r (written s) n
-  go-second n w b a k =
+  pub go-second : (t : Search) (n : ℕ) → Reach q.inst r → area s < area r → 0 < area (written s) → base q.inst (written s) < n → IsOpen q.inst t.memo (written s) n → IsGo q t r (written s) n
+  go-second t n w b a k o =
       let e = area-written s fits-second.region.ordered in
-      record { fits = fits-written q s fits-second; reach = second_part w h (omega arith) b refl; some = a; above = k; falls = omega arith }
+      record { fits = fits-written q s fits-second; reach = second_part w h (omega arith) b refl; some = a; above = k; falls = omega arith; opens = o }
 
   -- ---- a cut that fails: any other split by the cut is this one
 

@@ -13,7 +13,8 @@ use Rattle.block_tables.specs.Numbers.{Greatest}
 use Rattle.block_tables.proofs.EntryLemmas.{down-one}
 use Rattle.l_patterns.specs.Ells.{EllAll, Reach, root, written, IsGreatestEll, IsAtLeastUniform}
 use Rattle.l_patterns.specs.Cuts.{AreSidesOf, Fits}
-use Rattle.l_patterns.specs.States.{base, AreBounds, Tried, IsSearch, IsFrame, IsGo, IsRoot, IsKnown}
+use Rattle.l_patterns.specs.Keys.{base}
+use Rattle.l_patterns.specs.States.{AreBounds, Tried, IsSearch, IsFrame, IsGo, IsRoot, IsKnown}
 use Rattle.l_patterns.proofs.MemoLemmas.{stands-reaches}
 use Rattle.l_patterns.proofs.PartLemmas.{base-is}
 use Rattle.l_patterns.proofs.EllLemmas.{rectangle-is}
@@ -78,5 +79,5 @@ pub waiting : (q : Sides) (f : Frame) (at : ℕ) → IsFrame q f → Tried q f.r
 waiting q f at h t = record { fits = h.fits; reach = h.reach; some = h.some; above = h.above; tried = t }
 
 -- a part of which more must be known starts at its first cut
-pub due : (q : Sides) (r p : Region) (need : ℕ) → IsGo q r p need → IsFrame q (record { region = p; need = need; at = 0 })
-due q r p need h = record { fits = h.fits; reach = h.reach; some = h.some; above = h.above; tried = λ j v cut n. absurd (omega (arith, v)) }
+pub due : (q : Sides) (s : Search) (r p : Region) (need : ℕ) → IsGo q s r p need → IsFrame q (record { region = p; need = need; at = 0 })
+due q s r p need h = record { fits = h.fits; reach = h.reach; some = h.some; above = h.above; tried = λ j v cut n. absurd (omega (arith, v)) }

@@ -9,7 +9,8 @@ use Rattle.l_patterns.specs.declared.sides.Sides.{Sides}
 use Rattle.l_patterns.specs.declared.trying.Frame.{Frame}
 use Rattle.l_patterns.specs.Ells.{EllAll}
 use Rattle.l_patterns.specs.Cuts.{AreSidesOf, cut_count, nth_k3, nth_k4, IsNth, by_k1, by_k2, by_k3, by_k4}
-use Rattle.l_patterns.specs.States.{Fails, Tried, base, IsFrame}
+use Rattle.l_patterns.specs.Keys.{base}
+use Rattle.l_patterns.specs.States.{Fails, Tried, IsFrame}
 use Rattle.l_patterns.proofs.EllLemmas.{bounded}
 use Rattle.l_patterns.proofs.NumberLemmas.{indexed}
 

@@ -19,7 +19,8 @@ use Rattle.l_patterns.specs.declared.sides.Sides.{Sides}
 use Rattle.l_patterns.specs.declared.knowledge.Built.{Built}
 use Rattle.l_patterns.specs.Ells.{IsSplit, written}
 use Rattle.l_patterns.specs.Cuts.{Fits}
-use Rattle.l_patterns.specs.States.{base, none, nth_built, Stands, AreParts, IsBuilt, AreBuilt, Makes}
+use Rattle.l_patterns.specs.Keys.{base}
+use Rattle.l_patterns.specs.States.{none, nth_built, Stands, AreParts, IsBuilt, AreBuilt, Makes}
 use Rattle.l_patterns.proofs.EllLemmas.{written-cases, written-same, flipped, split-same, rounded-within}
 use Rattle.l_patterns.proofs.PartLemmas.{base-is, base-not, fits-first, fits-second}
 

@@ -1,12 +1,12 @@
 -- What the search knows of regions, and what its steps find.
-use Rattle.std.specs.Prelude.{ℕ, Contains, if◌then◌else◌, ◌+◌, ◌≤◌, ◌<◌, ◌≡◌, List, length, slice_index_or, Option, None, MatchOption}
+use Rattle.std.specs.Prelude.{ℕ, Contains, ◌+◌, ◌≤◌, ◌<◌, ◌≡◌, List, length, slice_index_or, Option, None, MatchOption}
 use Rattle.plan_geometry.specs.declared.instances.Inst.{Inst}
 use Rattle.block_tree.specs.declared.regions.Region.{Region}
 use Rattle.block_tree.specs.declared.regions.Cut.{Cut}
 use Rattle.block_tree.specs.declared.regions.Cut.TheVariants.{K2}
 use Rattle.block_tree.specs.declared.nodes.Node.{Node}
-use Rattle.block_tree.specs.Regions.{is_rectangle, side_x, side_y, region, rectangle, area}
-use Rattle.block_tree.specs.Trees.{uniform, held_count, IsLawful}
+use Rattle.block_tree.specs.Regions.{rectangle, area}
+use Rattle.block_tree.specs.Trees.{held_count, IsLawful}
 use Rattle.block_tables.specs.Numbers.{RoundsTo}
 use Rattle.l_patterns.specs.declared.sides.Sides.{Sides}
 use Rattle.l_patterns.specs.declared.knowledge.Key.{Key}
@@ -24,6 +24,8 @@ use Rattle.l_patterns.specs.declared.stepping.Stop.TheVariants.{Done, Waits}
 use Rattle.l_patterns.specs.declared.running.Next.{Next}
 use Rattle.l_patterns.specs.declared.running.Next.TheVariants.{Try, Closed}
 use Rattle.l_patterns.specs.Ells.{EllAll, IsSplit, written, Reach}
+use Rattle.l_patterns.specs.Keys.{base, region_of}
+use Rattle.l_patterns.specs.Progress.{IsOpen, IsFrom, Narrows}
 use Rattle.l_patterns.specs.Cuts.{Fits, IsNth}
 
 -- ---- which cuts were tried
@@ -38,10 +40,6 @@ abbrev pub Tried : Sides → Region → ℕ → ℕ → Type 0
 Tried q r need upto = (k : ℕ) → k < upto → (cut : Cut) → IsNth q r k cut → Fails q r need cut
 
 -- ---- bounds of a region's numbers
-
--- the number that needs no cut: that of the better grid, or none
-abbrev pub base : Inst → Region → ℕ
-base I r = if is_rectangle r then uniform I (side_x r) (side_y r) else 0
 
 -- some number of the region is at least n
 abbrev pub Reaches : Inst → Region → ℕ → Type 0
@@ -92,12 +90,6 @@ AreBuilt q bs = (j : ℕ) → j < length bs → IsBuilt q bs j (nth_built bs j)
 
 -- ---- what the memo has
 
-abbrev pub region_of : Key → Region
-region_of k = region k.big_x k.big_y k.small_x k.small_y
-
-abbrev pub key_of : Region → Key
-key_of r = record { big_x = r.big_x; big_y = r.big_y; small_x = r.small_x; small_y = r.small_y }
-
 -- bounds of a region that the search may come to, of which the reached one needs no cut or was built
 pub record IsRemembered (q : Sides) (bs : List Built) (r : Region) (k : Known) : Type 0 where
   pub fits : Fits q r
@@ -120,6 +112,10 @@ pub record IsFrame (q : Sides) (f : Frame) : Type 0 where
   pub above : base q.inst f.region < f.need
   pub tried : Tried q f.region f.need f.at
 
+-- a frame whose need lies between the bounds of its region
+abbrev pub IsPending : Sides → Search → Frame → Type 0
+IsPending q s f = IsFrame q f × IsOpen q.inst s.memo f.region f.need
+
 -- ---- what comes of a cut
 
 -- the parts hold what is wanted
@@ -129,28 +125,29 @@ pub record IsTake (q : Sides) (bs : List Built) (r : Region) (need : ℕ) (cut :
   pub small : a.count + b.count ≤ 32000000
 
 -- a smaller region of which more must be known first
-pub record IsGo (q : Sides) (r : Region) (p : Region) (need : ℕ) : Type 0 where
+pub record IsGo (q : Sides) (s : Search) (r : Region) (p : Region) (need : ℕ) : Type 0 where
   pub fits : Fits q p
   pub reach : Reach q.inst p
   pub some : 0 < area p
   pub above : base q.inst p < need
   pub falls : area p < area r
+  pub opens : IsOpen q.inst s.memo p need
 
-abbrev pub IsMove : Sides → List Built → Region → ℕ → Cut → Move → Type 0
-IsMove q bs r need cut Skip = Fails q r need cut
-IsMove q bs r need cut (Take a b) = IsTake q bs r need cut a b
-IsMove q bs r need cut (Go p least) = IsGo q r p least
+abbrev pub IsMove : Sides → Search → Region → ℕ → Cut → Move → Type 0
+IsMove q s r need cut Skip = Fails q r need cut
+IsMove q s r need cut (Take a b) = IsTake q s.built.items r need cut a b
+IsMove q s r need cut (Go p least) = IsGo q s r p least
 
 -- what a scan of the cuts found
-abbrev pub IsOutcome : Sides → List Built → Frame → Outcome → Type 0
-IsOutcome q bs f Failed = (n : ℕ) → EllAll q.inst f.region n → n < f.need
-IsOutcome q bs f (Taken cut a b) = IsTake q bs f.region f.need cut a b
-IsOutcome q bs f (Pushed at p least) = Tried q f.region f.need at × IsGo q f.region p least
+abbrev pub IsOutcome : Sides → Search → Frame → Outcome → Type 0
+IsOutcome q s f Failed = (n : ℕ) → EllAll q.inst f.region n → n < f.need
+IsOutcome q s f (Taken cut a b) = IsTake q s.built.items f.region f.need cut a b
+IsOutcome q s f (Pushed at p least) = Tried q f.region f.need at × IsGo q s f.region p least
 
--- a step that waits for a part: the cuts before `at` were tried
-abbrev pub IsStop : Sides → Frame → Stop → Type 0
-IsStop q f Done = Unit {0}
-IsStop q f (Waits p least at) = Tried q f.region f.need at × IsGo q f.region p least
+-- a step from s to t is done, or it waits for a part: the cuts before `at` were tried, and nothing was written
+abbrev pub IsStop : Sides → Search → Search → Frame → Stop → Type 0
+IsStop q s t f Done = Narrows q.inst f.region s.memo t.memo
+IsStop q s t f (Waits p least at) = (t.memo ≡ s.memo) × Tried q f.region f.need at × IsGo q s f.region p least
 
 -- ---- the root
 
@@ -168,9 +165,9 @@ pub record IsKnown (q : Sides) (s : Search) (r : Region) (k : Known) : Type 0 wh
   pub lower : Stands q.inst s.built.items (length s.built.items) r k.built k.low
 
 -- a region to go on with, or the root whose bounds have met
-abbrev pub IsNext : Sides → Search → Region → Next → Type 0
-IsNext q s root (Try f) = IsFrame q f
-IsNext q s root (Closed k) = IsKnown q s root k × (k.high ≤ k.low)
+abbrev pub IsNext : Sides → Search → Region → Option Frame → Next → Type 0
+IsNext q s root o (Try f) = IsPending q s f × IsFrom o root f
+IsNext q s root o (Closed k) = IsKnown q s root k × (k.high ≤ k.low)
 
 -- ---- the tree
 

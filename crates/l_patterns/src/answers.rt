@@ -44,6 +44,7 @@ pub fn is_search_size(px: &Points, py: &Points) -> bool
 fn new_search(alloc: Global) -> Result<Search, Memory>
     ensures built { IfOk result (λ s. s.built.items ≡ []) }
     ensures memo { IfOk result (λ s. s.memo.entries ≡ []) }
+    ensures room { IfOk result (λ s. s.memo.cap ≡ 262144) }
 {
     let Some(entries) = NonZeroUsize::new(MEMO_ENTRIES) else {
         unreachable!()
@@ -58,6 +59,7 @@ fn new_search(alloc: Global) -> Result<Search, Memory>
 fn search_from(alloc: Global, q: Sides<'_>, root: Region, most: usize) -> Result<EllAnswer, Memory>
     requires sides { AreSidesOf q }
     requires root { IsRoot q root }
+    requires most { most ≤ 262144 }
     ensures inst { IfOk result (λ a. a.tree.inst ≡ q.entry.inst) }
     ensures best { IfOk result
         (λ a. a.complete ≡ true → IsGreatestEll q.entry.inst (held_count a.tree.inst a.tree.root.region a.tree.root.block)) }

@@ -1,5 +1,6 @@
 ghost use Rattle.std.specs.Prelude.{◌≡◌, ◌∷◌, [], length, IfOk};
 ghost use Rattle.l_patterns.specs.Ells.{written};
+ghost use Rattle.l_patterns.specs.Keys.{base};
 ghost use Rattle.l_patterns.specs.Cuts.{Fits};
 ghost use Rattle.l_patterns.specs.States as spec;
 ghost use Rattle.l_patterns.specs.States.{AreBuilt, Makes};
@@ -14,7 +15,7 @@ use std::alloc::Global;
 // The node of a region that needs no cut.
 fn plain_node(q: Sides<'_>, r: Region) -> Node
     requires { Fits q r }
-    ensures { Makes q.entry.inst r (spec.base q.entry.inst (written r)) result }
+    ensures { Makes q.entry.inst r (base q.entry.inst (written r)) result }
 {
     let block = if is_rectangle(r) {
         Block::Grid {

@@ -1,6 +1,8 @@
 ghost use Rattle.std.specs.Prelude.{◌≡◌, length, None, OnOk};
 ghost use Rattle.l_patterns.specs.Cuts.{AreSidesOf, Fits};
-ghost use Rattle.l_patterns.specs.States as spec;
+ghost use Rattle.lru.specs.LruCache.{lru_cache, put_entries};
+ghost use Rattle.l_patterns.specs.Keys as keys;
+ghost use Rattle.l_patterns.specs.Progress as progress;
 ghost use Rattle.l_patterns.specs.States.{AreBounds, IsKnown, IsRemembered, IsSearch};
 
 use crate::parts::area_of;
@@ -55,7 +57,7 @@ pub struct Search {
 
 /// The key of a region.
 pub fn key_of(r: Region) -> Key
-    ensures { result ≡ spec.key_of r }
+    ensures { result ≡ keys.key_of r }
 {
     Key {
         big_x: r.big_x,
@@ -69,7 +71,7 @@ pub fn key_of(r: Region) -> Key
 fn base_of(q: Sides<'_>, r: Region) -> u32
     requires sides { AreSidesOf q }
     requires fits { Fits q r }
-    ensures { result ≡ spec.base q.entry.inst r }
+    ensures { result ≡ keys.base q.entry.inst r }
 {
     if is_rectangle(r) {
         uniform_of(q.inst, side_x(r), side_y(r))
@@ -83,8 +85,7 @@ pub fn fresh(q: Sides<'_>, r: Region) -> Known
     requires sides { AreSidesOf q }
     requires fits { Fits q r }
     ensures bounds { AreBounds q.entry.inst r result }
-    ensures low { result.low ≡ spec.base q.entry.inst r }
-    ensures built { result.built ≡ None }
+    ensures value { result ≡ progress.fresh_of q.entry.inst r }
 {
     Known {
         low: base_of(q, r),
@@ -98,7 +99,8 @@ pub fn recall(q: Sides<'_>, s: &Search, r: Region) -> Known
     requires sides { AreSidesOf q }
     requires fits { Fits q r }
     requires search { IsSearch q s.now }
-    ensures { IsKnown q.entry s.entry.now r result }
+    ensures known { IsKnown q.entry s.entry.now r result }
+    ensures value { result ≡ progress.known_of q.entry.inst s.entry.now.memo r }
 {
     let key = key_of(r);
     match s.memo.peek(&key) {
@@ -113,6 +115,8 @@ pub fn note(q: Sides<'_>, s: &mut Search, r: Region, k: Known) -> Result<(), Mem
     requires known { IsRemembered q s.old.built.items r k }
     ensures search { OnOk result (IsSearch q.entry s.new) }
     ensures built { s.new.built ≡ s.old.built }
+    ensures memo { OnOk result
+        (s.new.memo ≡ lru_cache (put_entries keys.same_key s.old.memo (keys.key_of r) k) s.old.memo.cap) }
 {
     let _q = q;
     let key = key_of(r);

@@ -2,7 +2,8 @@ ghost use Rattle.std.specs.Prelude.{◌≡◌, ◌≤◌, true, false, IfOk, IfS
 ghost use Rattle.l_patterns.specs.Ells.{HasMore};
 ghost use Rattle.l_patterns.specs.Cuts.{AreSidesOf};
 ghost use Rattle.l_patterns.specs.States as spec;
-ghost use Rattle.l_patterns.specs.States.{IsFrame, IsKnown, IsRoot, IsSearch};
+ghost use Rattle.l_patterns.specs.States.{IsFrame, IsKnown, IsPending, IsRoot, IsSearch};
+ghost use Rattle.l_patterns.specs.Progress.{Enters};
 
 use crate::knowledge::{Known, Search, fresh, key_of, note, recall};
 use crate::sides::Sides;
@@ -31,8 +32,8 @@ fn next_frame(q: Sides<'_>, s: &Search, root: Region, pending: Option<Frame>) ->
     requires sides { AreSidesOf q }
     requires search { IsSearch q s.now }
     requires root { IsRoot q root }
-    requires pending { IfSome pending (IsFrame q) }
-    ensures { spec.IsNext q.entry s.entry.now root result }
+    requires pending { IfSome pending (IsPending q s.now) }
+    ensures { spec.IsNext q.entry s.entry.now root pending result }
 {
     if let Some(frame) = pending {
         return Next::Try { frame };
@@ -55,7 +56,10 @@ fn enter(q: Sides<'_>, s: &mut Search, f: Frame, most: usize) -> Result<bool, Me
     requires sides { AreSidesOf q }
     requires search { IsSearch q s.old }
     requires frame { IsFrame q f }
+    requires room { most ≤ s.old.memo.cap }
     ensures search { OnOk result (IsSearch q.entry s.new) }
+    ensures enters { IfOk result
+        (λ entered. entered ≡ true → Enters q.entry.inst most f.region s.old.memo s.new.memo) }
     ensures full { IfOk result (λ entered. entered ≡ false → HasMore q.entry.inst most) }
 {
     let key = key_of(f.region);
@@ -81,13 +85,14 @@ pub fn run(
     requires sides { AreSidesOf q }
     requires search { IsSearch q s.old }
     requires root { IsRoot q root }
+    requires room { most ≤ s.old.memo.cap }
     ensures search { OnOk result (IsSearch q.entry s.new) }
     ensures known { IfOk result (λ e. IsKnown q.entry s.new root e.known) }
     ensures met { IfOk result (λ e. e.complete ≡ true → e.known.high ≤ e.known.low) }
     ensures more { IfOk result (λ e. e.complete ≡ false → HasMore q.entry.inst most) }
 {
     let mut pending: Vec<Frame> = Vec::new(alloc);
-    for _ in 0..u64::MAX {
+    loop {
         match next_frame(q, s, root, pending.pop()) {
             Next::Closed { known } => {
                 return Ok(Ending {
@@ -120,5 +125,4 @@ pub fn run(
             }
         }
     }
-    Err(Memory)
 }

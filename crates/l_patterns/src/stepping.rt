@@ -1,6 +1,7 @@
 ghost use Rattle.std.specs.Prelude.{◌≡◌, IfOk, OnOk};
 ghost use Rattle.l_patterns.specs.declared.trying.Outcome.TheVariants.{Failed};
 ghost use Rattle.l_patterns.specs.Cuts.{AreSidesOf};
+ghost use Rattle.l_patterns.specs.Progress.{HasRegion, IsOpen, Narrows};
 ghost use Rattle.l_patterns.specs.States as spec;
 ghost use Rattle.l_patterns.specs.States.{IsFrame, IsSearch};
 
@@ -26,8 +27,11 @@ fn lower(q: Sides<'_>, s: &mut Search, f: Frame) -> Result<(), Memory>
     requires sides { AreSidesOf q }
     requires search { IsSearch q s.old }
     requires frame { IsFrame q f }
-    requires failed { spec.IsOutcome q s.old.built.items f Failed }
-    ensures { OnOk result (IsSearch q.entry s.new) }
+    requires opens { IsOpen q.inst s.old.memo f.region f.need }
+    requires there { HasRegion s.old.memo f.region }
+    requires failed { spec.IsOutcome q s.old f Failed }
+    ensures search { OnOk result (IsSearch q.entry s.new) }
+    ensures narrows { OnOk result (Narrows q.entry.inst f.region s.old.memo s.new.memo) }
 {
     let k = recall(q, s, f.region);
     note(
@@ -54,14 +58,14 @@ fn raise(
     requires sides { AreSidesOf q }
     requires search { IsSearch q s.old }
     requires frame { IsFrame q f }
+    requires opens { IsOpen q.inst s.old.memo f.region f.need }
+    requires there { HasRegion s.old.memo f.region }
     requires take { spec.IsTake q s.old.built.items f.region f.need cut first second }
-    ensures { OnOk result (IsSearch q.entry s.new) }
+    ensures search { OnOk result (IsSearch q.entry s.new) }
+    ensures narrows { OnOk result (Narrows q.entry.inst f.region s.old.memo s.new.memo) }
 {
     let count = first.count + second.count;
     let k = recall(q, s, f.region);
-    if count <= k.low {
-        return Ok(());
-    }
     let built: &[Built] = &s.built;
     let place = built.len();
     s.built.push(Built {
@@ -88,8 +92,10 @@ pub fn step(q: Sides<'_>, s: &mut Search, f: Frame) -> Result<Stop, Memory>
     requires sides { AreSidesOf q }
     requires search { IsSearch q s.old }
     requires frame { IsFrame q f }
+    requires opens { IsOpen q.inst s.old.memo f.region f.need }
+    requires there { HasRegion s.old.memo f.region }
     ensures search { OnOk result (IsSearch q.entry s.new) }
-    ensures goes { IfOk result (spec.IsStop q.entry f) }
+    ensures goes { IfOk result (spec.IsStop q.entry s.old s.new f) }
 {
     match scan(q, s, f) {
         Outcome::Failed => {

@@ -61,7 +61,7 @@ fn weigh_parts(
     requires parts { IsSplit q.inst r cut first second }
     requires smaller_first { area first < area r }
     requires smaller_second { area second < area r }
-    ensures { spec.IsMove q.entry s.entry.now.built.items r need cut result }
+    ensures { spec.IsMove q.entry s.entry.now r need cut result }
 {
     let _cut = cut;
     let _r = r;
@@ -109,7 +109,7 @@ fn try_cut(q: Sides<'_>, s: &Search, r: Region, need: u32, cut: Cut) -> Move
     requires reach { Reach q.inst r }
     requires search { IsSearch q s.now }
     requires normal { IsNormalCut q.inst cut }
-    ensures { spec.IsMove q.entry s.entry.now.built.items r need cut result }
+    ensures { spec.IsMove q.entry s.entry.now r need cut result }
 {
     if !is_cut(r, cut) {
         return Move::Skip;
@@ -133,7 +133,7 @@ pub fn scan(q: Sides<'_>, s: &Search, f: Frame) -> Outcome
     requires sides { AreSidesOf q }
     requires search { IsSearch q s.now }
     requires frame { IsFrame q f }
-    ensures { spec.IsOutcome q.entry s.entry.now.built.items f result }
+    ensures { spec.IsOutcome q.entry s.entry.now f result }
 {
     for k in f.at..cut_count(q, f.region) {
         let cut = nth_cut(q, f.region, k);

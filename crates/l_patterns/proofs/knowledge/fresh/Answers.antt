@@ -1,7 +1,7 @@
 use Rattle.std.proofs.Common.{arith, ◌*◌}
 use Rattle.std.proofs.Math.Nat.{div-le_self, le_refl}
 use Rattle.block_tree.specs.Regions.{area}
-use Rattle.l_patterns.specs.States.{base}
+use Rattle.l_patterns.specs.Keys.{base}
 use Rattle.l_patterns.proofs.PartLemmas.{cells-bound, base-bound}
 use Rattle.l_patterns.proofs.knowledge.fresh.Goals as goal
 

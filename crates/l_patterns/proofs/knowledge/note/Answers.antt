@@ -1,8 +1,9 @@
 use Rattle.std.proofs.Common.{◌≡◌, true, ap, sym, subst, ◌∙◌, inl, inr}
+use Rattle.lru.specs.LruCache.{lru_cache, put_entries}
 use Rattle.lru.proofs.CallerLemmas.{Contains-put_entries}
 use Rattle.l_patterns.specs.declared.knowledge.Key.{Key}
-use Rattle.l_patterns.specs.States.{region_of}
-use Rattle.l_patterns.proofs.MemoLemmas.{same-key, same_key, noted}
+use Rattle.l_patterns.specs.Keys.{same_key, region_of}
+use Rattle.l_patterns.proofs.MemoLemmas.{same-key, noted}
 use Rattle.l_patterns.proofs.knowledge.note.Goals as goal
 
 pub returns-clause-search : goal.returns-clause-search
@@ -20,3 +21,8 @@ returns-clause-search c =
         ]
       ];
     }
+
+pub returns-clause-memo : goal.returns-clause-memo
+returns-clause-memo c =
+    let m = c.args.s.now.memo in
+    subst (λ (z : Key). c.put.new.self ≡ lru_cache (put_entries same_key m z c.args.k) m.cap) c.key_of-key.ensures c.in_ok-put.ensures.entries
