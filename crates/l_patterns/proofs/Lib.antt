@@ -1,0 +1,12 @@
+pub mod WholeLemmas
+pub mod EllLemmas
+pub mod NumberLemmas
+pub mod PartLemmas
+pub mod ScanLemmas
+pub mod MemoLemmas
+pub mod FullLemmas
+pub mod CountLemmas
+pub mod TreeLemmas
+pub mod RootLemmas
+pub mod ProgressLemmas
+pub mod PendingLemmas

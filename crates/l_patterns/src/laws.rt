@@ -1,0 +1,17 @@
+ghost use Rattle.l_patterns.specs.Laws.{EllCellsLaw, WholePartsLaw, NumberingLaw};
+
+/// A number of a region, times the cells of a case, is at most the cells of the region.
+pub fn ell_numbers_fit_in_cells()
+    ensures { EllCellsLaw }
+{}
+
+/// A cut one part of which has as many cells as its region gives no greater number than the better grid and
+/// the cuts into two smaller parts give.
+pub fn whole_parts_give_nothing_greater()
+    ensures { WholePartsLaw }
+{}
+
+/// Every lawful cut at normal places has a number in the order in which the search goes through the cuts.
+pub fn cuts_are_numbered()
+    ensures { NumberingLaw }
+{}
