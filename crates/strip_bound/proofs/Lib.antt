@@ -1,2 +1,3 @@
-pub mod Pairs
+pub mod Keeping
 pub mod ListSteps
+pub mod Pairs

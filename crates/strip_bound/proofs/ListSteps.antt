@@ -13,7 +13,9 @@ use Rattle.weightings.specs.declared.certs.StripCut.{StripCut}
 use Rattle.weightings.specs.declared.certs.StripCut.TheVariants.{Area}
 use Rattle.strip_cuts.specs.Cuts.{IsTrueCut}
 use Rattle.strip_bound.specs.Firsts.{AreTrue}
-use Rattle.strip_bound.specs.CutLists.{AreShorts, Counts, beside, each_two, counts_of, IsLineCut, AreLineCuts, AreCuts, Adds}
+use Rattle.strip_bound.specs.CutLists.{AreShorts, Counts, beside, each_two, counts_of, IsLineCut, AreLineCuts, AreCuts}
+use Rattle.strip_bound.specs.Kept.{StandsFor, Adds, AddsAxis, IsKept}
+use Rattle.strip_bound.proofs.Keeping.{stands-none, stands-push, stands-skip}
 
 append-none : {T : Type 0} (xs : List T) → xs ++ [] ≡ xs
 append-none [] = refl
@@ -25,15 +27,37 @@ lines-join axis I [] ms (c ∷ cs) ds a b = absurd a
 lines-join axis I (n ∷ ns) ms [] ds a b = absurd a
 lines-join axis I (n ∷ ns) ms (c ∷ cs) ds a b = (a.0, lines-join axis I ns ms cs ds a.1 b)
 
+line-true : (axis : Axis) (I : Inst) (n : Counts) (c : StripCut) → IsLineCut axis I n c → IsTrueCut I c
+line-true X I n c x = subst (λ d. IsTrueCut I d) (sym x.is) x.greatest
+line-true Y I n c x = subst (λ d. IsTrueCut I d) (sym x.is) x.greatest
+
 pub adds-join : (axis : Axis) (I : Inst) (ns ms : List Counts) (a b c : List StripCut) → Adds axis I ns a b → Adds axis I ms b c → Adds axis I (ns ++ ms) a c
 adds-join axis I ns ms a b c x y = record {
   more = x.more ++ y.more;
   are_cuts = lines-join axis I ns ms x.more y.more x.are_cuts y.are_cuts;
-  all = y.all ∙ (ap (λ zs. zs ++ y.more) x.all ∙ append_assoc a x.more y.more);
+  stands = λ all s. subst (λ zs. StandsFor I zs c) (append_assoc all x.more y.more) (y.stands (all ++ x.more) (x.stands all s));
+}
+
+pub adds-none : (axis : Axis) (I : Inst) (a : List StripCut) → Adds axis I [] a a
+adds-none axis I a = record {
+  more = [];
+  are_cuts = tt;
+  stands = λ all s. subst (λ zs. StandsFor I zs a) (sym (append-none all)) s;
 }
 
 pub adds-one : (axis : Axis) (I : Inst) (n : Counts) (c : StripCut) (a b : List StripCut) → IsLineCut axis I n c → b ≡ a ++ c ∷ [] → Adds axis I (n ∷ []) a b
-adds-one axis I n c a b x e = record { more = c ∷ []; are_cuts = (x, tt); all = e }
+adds-one axis I n c a b x e = record {
+  more = c ∷ [];
+  are_cuts = (x, tt);
+  stands = λ all s. subst (λ zs. StandsFor I (all ++ c ∷ []) zs) (sym e) (stands-push I all a c (line-true axis I n c x) s);
+}
+
+pub adds-kept : (axis : Axis) (I : Inst) (n : Counts) (a : List StripCut) → IsKept axis I n a → Adds axis I (n ∷ []) a a
+adds-kept axis I n a x = record {
+  more = get_or a x.place Area ∷ [];
+  are_cuts = (x.is_cut, tt);
+  stands = λ all s. stands-skip I all a x.place x.within s;
+}
 
 -- the cuts of some of all counts are put behind; these are left
 pub record Left (axis : Axis) (I : Inst) (all left : List Counts) (old cur : List StripCut) : Type 0 where
@@ -42,7 +66,7 @@ pub record Left (axis : Axis) (I : Inst) (all left : List Counts) (old cur : Lis
   pub adds : Adds axis I done old cur
 
 pub left-start : (axis : Axis) (I : Inst) (all : List Counts) (old : List StripCut) → Left axis I all all old old
-left-start axis I all old = record { done = []; split = refl; adds = record { more = []; are_cuts = tt; all = sym (append-none old) } }
+left-start axis I all old = record { done = []; split = refl; adds = adds-none axis I old }
 
 pub left-more :
     (axis : Axis) (I : Inst) (all left some rest : List Counts) (old cur new : List StripCut)
@@ -110,10 +134,6 @@ shorts-are axis I xs long_enough each = record {
           | inr ge ↦ omega arith
         ]
 
-line-true : (axis : Axis) (I : Inst) (n : Counts) (c : StripCut) → IsLineCut axis I n c → IsTrueCut I c
-line-true X I n c x = subst (λ d. IsTrueCut I d) (sym x.is) x.greatest
-line-true Y I n c x = subst (λ d. IsTrueCut I d) (sym x.is) x.greatest
-
 lines-true : (axis : Axis) (I : Inst) (ns : List Counts) (cs : List StripCut) → AreLineCuts axis I ns cs → AreTrue I cs
 lines-true axis I [] [] a k lt = absurd (omega arith)
 lines-true axis I [] (c ∷ cs) a k lt = absurd a
@@ -141,3 +161,35 @@ cuts-some I cs a = subst (λ xs. 0 < length xs) (sym a.all) (omega arith)
 
 pub cuts-first : (I : Inst) (cs : List StripCut) → AreCuts I cs → get_or cs 0 Area ≡ Area
 cuts-first I cs a = ap (λ xs. get_or xs 0 Area) a.all
+
+-- the cuts of an axis are those of its two single counts and of each two partitions
+pub adds-axis :
+    (axis : Axis) (I : Inst) (xs : List ℕ) (a b : List StripCut)
+    → AreShorts axis I xs
+    → Adds axis I (counts_of xs) a b
+    → AddsAxis axis I a b
+adds-axis axis I xs a b shorts x = record {
+  more = x.more;
+  are_cuts = record { shorts = xs; are_shorts = shorts; are_cuts = x.are_cuts };
+  stands = x.stands;
+}
+
+pub cuts-all :
+    (I : Inst) (xs ys zs : List StripCut)
+    → xs ≡ Area ∷ []
+    → AddsAxis X I xs ys
+    → AddsAxis Y I ys zs
+    → (all : List StripCut) × AreCuts I all × StandsFor I all zs
+cuts-all I xs ys zs e x y =
+    let area : StandsFor I ([] ++ Area ∷ []) ([] ++ Area ∷ []) = stands-push I [] [] Area tt (stands-none I) in
+    let first : StandsFor I (Area ∷ []) xs = subst (λ cs. StandsFor I (Area ∷ []) cs) (sym e) area in (
+      ((Area ∷ []) ++ x.more) ++ y.more,
+      record {
+        along_x = x.more;
+        along_y = y.more;
+        in_x = x.are_cuts;
+        in_y = y.are_cuts;
+        all = append_assoc (Area ∷ []) x.more y.more;
+      },
+      y.stands ((Area ∷ []) ++ x.more) (x.stands (Area ∷ []) first),
+    )

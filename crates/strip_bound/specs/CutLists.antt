@@ -8,7 +8,7 @@ use Rattle.partitions.specs.Partitions.{IsMaximal}
 use Rattle.weightings.specs.declared.certs.StripCut.{StripCut}
 use Rattle.weightings.specs.declared.certs.StripCut.TheVariants.{Area, X as LinesOfX, Y as LinesOfY}
 use Rattle.strip_cuts.specs.Cuts.{IsGreatest}
-use Rattle.strip_bound.specs.Firsts.{IsStrip}
+use Rattle.strip_bound.specs.Firsts.{IsStripBound, IsStrip}
 
 -- by the number i of long case sides, how many short ones the maximal partition with i long ones has
 pub record AreShorts (axis : Axis) (I : Inst) (shorts : List ℕ) : Type 0 where
@@ -72,14 +72,8 @@ pub record IsStripOf (I : Inst) (table : List StripCut) : Type 0 where
   pub are_cuts : AreCuts I cuts
   pub is_strip : IsStrip I cuts table
 
--- the cuts of these counts are put behind those of a list
-pub record Adds (axis : Axis) (I : Inst) (counts : List Counts) (old new : List StripCut) : Type 0 where
-  pub more : List StripCut
-  pub are_cuts : AreLineCuts axis I counts more
-  pub all : new ≡ old ++ more
-
--- all cuts of an axis are put behind those of a list
-pub record AddsAxis (axis : Axis) (I : Inst) (old new : List StripCut) : Type 0 where
-  pub more : List StripCut
-  pub are_cuts : AreAxisCuts axis I more
-  pub all : new ≡ old ++ more
+-- n is the greatest h + v of a pair that meets each cut of the instance
+pub record IsStripBoundOf (I : Inst) (n : ℕ) : Type 0 where
+  pub cuts : List StripCut
+  pub are_cuts : AreCuts I cuts
+  pub is_bound : IsStripBound I cuts n

@@ -26,13 +26,17 @@ pub record IsTable (I : Inst) (cuts : List StripCut) (n : ℕ) (table : List Str
   pub count : length table ≡ n + 2
   pub each : (h : ℕ) → h < n + 2 → IsFirst I cuts h (n + 1 - h) (slice_index_or table h Area)
 
--- n is the greatest h + v of a pair that meets each cut
-pub record IsStripBound (I : Inst) (cuts : List StripCut) (n : ℕ) : Type 0 where
-  pub most : (h v : ℕ) → MeetsAll I cuts h v → h + v ≤ n
+-- some pair of n cases meets each cut
+pub record IsReached (I : Inst) (cuts : List StripCut) (n : ℕ) : Type 0 where
   pub h : ℕ
   pub v : ℕ
   pub admitted : MeetsAll I cuts h v
   pub reached : h + v ≡ n
+
+-- n is the greatest h + v of a pair that meets each cut
+pub record IsStripBound (I : Inst) (cuts : List StripCut) (n : ℕ) : Type 0 where
+  pub most : (h v : ℕ) → MeetsAll I cuts h v → h + v ≤ n
+  pub reached : IsReached I cuts n
 
 -- the certificate of the strip bound
 pub record IsStrip (I : Inst) (cuts table : List StripCut) : Type 0 where

@@ -2,6 +2,7 @@
 #![tactic(auto)]
 
 mod lists;
+mod seen;
 mod tables;
 
 pub use tables::strip;

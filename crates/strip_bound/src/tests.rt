@@ -37,3 +37,12 @@ fn area_alone(rt: HostRuntime) -> Result<(), Fail> {
     assert_eq!(rt; cuts[10], StripCut::Area);
     Ok(())
 }
+
+#[test]
+fn fewer_than_by_area(rt: HostRuntime) -> Result<(), Fail> {
+    let inst = Inst::new(9, 8, 5, 2).ok_or("sides")?;
+    assert_eq!(rt; area_bound(inst), 7);
+    let cert = certificate(rt.alloc(), inst)?.ok_or("fits")?;
+    assert_eq!(rt; cert.cuts().len(), 8);
+    Ok(())
+}
