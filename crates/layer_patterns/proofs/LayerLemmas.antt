@@ -7,7 +7,7 @@ use Rattle.plan_geometry.specs.Layout.{area_bound_of}
 use Rattle.plan_geometry.specs.Placed.{Placed, IsLayer}
 use Rattle.plan_geometry.proofs.Counting.{area_bounds}
 use Rattle.plan_memory.specs.declared.Memory.{Memory}
-use Rattle.layer_planner.specs.Patterns.{ReachesFirst, ReachesFour, ReachesFive, HoldsPatterns}
+use Rattle.layer_patterns.specs.Patterns.{ReachesFirst, ReachesFour, ReachesFive, HoldsPatterns}
 
 pub never : {A : Type 0} → false ≡ true → A
 never e = absurd (no e) where

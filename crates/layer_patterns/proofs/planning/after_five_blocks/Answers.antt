@@ -2,11 +2,11 @@ use Rattle.std.proofs.Common.{◌≡◌, ◌∙◌, length, max, sym, arith}
 use Rattle.std.proofs.lemmas.Result.{IfOk-weaker}
 use Rattle.block_tree.specs.Trees.{held_count}
 use Rattle.block_tables.specs.declared.patterns.Pattern.TheVariants.{Five}
-use Rattle.layer_planner.specs.Patterns.{ReachesFive}
-use Rattle.layer_planner.proofs.BoundLemmas.{block-few, block-greatest}
-use Rattle.layer_planner.proofs.PlaceLemmas.{five-size}
-use Rattle.layer_planner.proofs.LayerLemmas.{never}
-use Rattle.layer_planner.proofs.planning.after_five_blocks.Goals as goal
+use Rattle.layer_patterns.specs.Patterns.{ReachesFive}
+use Rattle.layer_patterns.proofs.BoundLemmas.{block-few, block-greatest}
+use Rattle.layer_patterns.proofs.PlaceLemmas.{five-size}
+use Rattle.layer_patterns.proofs.LayerLemmas.{never}
+use Rattle.layer_patterns.proofs.planning.after_five_blocks.Goals as goal
 
 pub returns-then-is_full-clause-five : goal.returns-then-is_full-clause-five
 returns-then-is_full-clause-five c = λ z a b n x y h. let u = c.is_full.ensures.0 c.if-is_full.true in omega (arith, u, block-few c.args.inst Five a b n x y h)

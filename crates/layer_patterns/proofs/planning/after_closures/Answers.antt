@@ -1,9 +1,9 @@
 use Rattle.std.proofs.Common.{◌≤◌, length, arith}
 use Rattle.std.proofs.lemmas.Result.{IfOk-weaker}
 use Rattle.block_tables.specs.declared.patterns.Pattern.TheVariants.{Five, Four}
-use Rattle.layer_planner.specs.Patterns.{ReachesFour}
-use Rattle.layer_planner.proofs.BoundLemmas.{block-few}
-use Rattle.layer_planner.proofs.planning.after_closures.Goals as goal
+use Rattle.layer_patterns.specs.Patterns.{ReachesFour}
+use Rattle.layer_patterns.proofs.BoundLemmas.{block-few}
+use Rattle.layer_patterns.proofs.planning.after_closures.Goals as goal
 
 pub returns-then-is_full-clause-four : goal.returns-then-is_full-clause-four
 returns-then-is_full-clause-four c = λ z a b n x y h. let u = c.is_full.ensures.0 c.if-is_full.true in omega (arith, u, block-few c.args.inst Four a b n x y h)

@@ -1,7 +1,7 @@
 use Rattle.std.proofs.Common.{length, arith}
-use Rattle.layer_planner.proofs.BoundLemmas.{lying-few, standing-few}
-use Rattle.layer_planner.proofs.LayerLemmas.{few-cases, all-patterns}
-use Rattle.layer_planner.proofs.planning.plan_layer.Goals as goal
+use Rattle.layer_patterns.proofs.BoundLemmas.{lying-few, standing-few}
+use Rattle.layer_patterns.proofs.LayerLemmas.{few-cases, all-patterns}
+use Rattle.layer_patterns.proofs.planning.plan_layer.Goals as goal
 
 pub uniform-requires-clause-lying : goal.uniform-requires-clause-lying
 uniform-requires-clause-lying c = omega (arith, lying-few c.args.inst, c.requires)

@@ -7,7 +7,7 @@ use Rattle.plan_geometry.proofs.LayoutSteps.{AllPairs-head, AllPairs-tail}
 use Rattle.raster_points.specs.Places.{Lists}
 use Rattle.five_block.specs.Five.{IsFiveSize}
 use Rattle.g4_patterns.specs.Four.{IsFourSize}
-use Rattle.layer_planner.specs.Patterns.{AreNormalPlaces, IsFiveSized, IsFourSized}
+use Rattle.layer_patterns.specs.Patterns.{AreNormalPlaces, IsFiveSized, IsFourSized}
 
 abbrev IsRising : List ℕ → Type 0
 IsRising xs = AllPairs (λ (x y : ℕ). x < y) xs

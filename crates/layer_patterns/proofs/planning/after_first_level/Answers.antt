@@ -1,9 +1,9 @@
 use Rattle.std.proofs.Common.{◌≡◌, ◌≤◌, ◌∙◌, length, max, arith}
 use Rattle.std.proofs.lemmas.Result.{IfOk-weaker}
 use Rattle.block_tree.specs.Trees.{held_count}
-use Rattle.layer_planner.specs.Patterns.{ReachesFirst}
-use Rattle.layer_planner.proofs.BoundLemmas.{first-few}
-use Rattle.layer_planner.proofs.planning.after_first_level.Goals as goal
+use Rattle.layer_patterns.specs.Patterns.{ReachesFirst}
+use Rattle.layer_patterns.proofs.BoundLemmas.{first-few}
+use Rattle.layer_patterns.proofs.planning.after_first_level.Goals as goal
 
 pub returns-then-is_full-clause-first : goal.returns-then-is_full-clause-first
 returns-then-is_full-clause-first c = λ n h. let u = c.is_full.ensures.0 c.if-is_full.true in omega (arith, u, first-few c.args.inst n h)
