@@ -3,9 +3,8 @@ use Rattle.std.proofs.Common.{◌≡◌, ℕ, ◌≤◌, true, false, length, ma
 use Rattle.plan_geometry.specs.declared.spots.Way.TheVariants.{Lying, Standing}
 use Rattle.plan_geometry.specs.declared.instances.Inst.{Inst}
 use Rattle.plan_geometry.specs.Grid.{grid_count}
-use Rattle.plan_geometry.specs.Layout.{area_bound_of}
+use Rattle.plan_geometry.specs.Layout.{IsBounded}
 use Rattle.plan_geometry.specs.Placed.{Placed, IsLayer}
-use Rattle.plan_geometry.proofs.Counting.{area_bounds}
 use Rattle.plan_memory.specs.declared.Memory.{Memory}
 use Rattle.layer_patterns.specs.Patterns.{ReachesFirst, ReachesFour, ReachesFive, HoldsPatterns}
 
@@ -14,10 +13,10 @@ never e = absurd (no e) where
   no : false ≡ true → ⊥
   no e = cc
 
--- a layer of the instance has no more cases than the cells allow
-pub few-cases : (I : Inst) (r : Result Placed Memory) → IfOk r (λ a. a.inst ≡ I) → IfOk r (λ a. IsLayer a.inst a.spots) → IfOk r (λ a. length a.spots ≤ area_bound_of I)
-few-cases I (Ok a) e h = subst (λ J. length a.spots ≤ area_bound_of J) e (area_bounds a.inst a.spots h.layout)
-few-cases I (Err e) f h = tt
+-- a layer of the instance has no more cases than a number that bounds its layouts
+pub few-cases : (I : Inst) (most : ℕ) → IsBounded I most → (r : Result Placed Memory) → IfOk r (λ a. a.inst ≡ I) → IfOk r (λ a. IsLayer a.inst a.spots) → IfOk r (λ a. length a.spots ≤ most)
+few-cases I most b (Ok a) e h = b a.spots (subst (λ J. IsLayer J a.spots) e h).layout
+few-cases I most b (Err e) f h = tt
 
 -- the last layer has what each step before it reached: m cases of the better grid, then k of the first level
 pub all-patterns : (I : Inst) (r : Result Placed Memory) (m k : ℕ) → m ≡ max (grid_count I Lying) (grid_count I Standing) → m ≤ k → ReachesFirst I k

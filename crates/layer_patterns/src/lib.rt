@@ -1,13 +1,13 @@
-// The layer that is planned for an instance, by one pattern of blocks after another.
+//! A layer for an instance, by one pattern of blocks after another, up to a number that no layout exceeds.
 #![tactic(auto)]
 
 mod planning;
 
-pub use planning::plan_layer;
+pub use planning::layer_by_patterns;
 
 #[cfg(test)]
 mod tests {
-    use crate::plan_layer;
+    use crate::layer_by_patterns;
     use plan_geometry::{Inst, Spot, Way, area_bound};
     use std::test::Fail;
 
@@ -18,10 +18,11 @@ mod tests {
     #[test]
     fn round_a_centre(rt: HostRuntime) -> Result<(), Fail> {
         let inst = Inst::new(5, 5, 3, 2).ok_or("sides")?;
-        if area_bound(inst) > 1000 {
+        let most = area_bound(inst);
+        if most > 1000 {
             return Err("too many cases".into());
         }
-        let layer = plan_layer(rt.alloc(), inst)?;
+        let layer = layer_by_patterns(rt.alloc(), inst, most)?;
         let round = [
             spot(0, 0, Way::Lying),
             spot(3, 0, Way::Standing),
@@ -42,10 +43,11 @@ mod tests {
         ];
         for ((l_side, w_side, long, short), count) in instances {
             let inst = Inst::new(l_side, w_side, long, short).ok_or("sides")?;
-            if area_bound(inst) > 1000 {
+            let most = area_bound(inst);
+            if most > 1000 {
                 return Err("too many cases".into());
             }
-            let layer = plan_layer(rt.alloc(), inst)?;
+            let layer = layer_by_patterns(rt.alloc(), inst, most)?;
             assert_eq!(rt; layer.count(), count);
         }
         Ok(())

@@ -1,5 +1,5 @@
 ghost use Rattle.std.specs.Prelude.{◌≡◌, ◌≤◌, ◌↔◌, length, max, IsTrue, IfOk};
-ghost use Rattle.plan_geometry.specs.Layout.{area_bound_of};
+ghost use Rattle.plan_geometry.specs.Layout.{IsBounded};
 ghost use Rattle.plan_geometry.specs.Placed.{IsLayer};
 ghost use Rattle.raster_points.specs.Points.{ArePointsOf};
 ghost use Rattle.block_tree.specs.Trees.{held_count};
@@ -8,16 +8,16 @@ ghost use Rattle.layer_patterns.specs.Patterns.{AreNormalPlaces, ReachesFirst, R
 use block_tree::BlockTree;
 use five_block::{five_closure, is_five_size, level_one};
 use g4_patterns::{four_closure, is_four_size};
-use plan_geometry::{Axis, Inst, Layer, area_bound, uniform};
+use plan_geometry::{Axis, Inst, Layer, uniform};
 use plan_memory::Memory;
 use raster_points::Points;
 use std::alloc::Global;
 
-// Whether no layer of the instance has more cases, by the cells of the pallet.
-fn is_full(inst: Inst, layer: &Layer) -> bool
-    ensures { IsTrue result ↔ (area_bound_of inst ≤ length layer.now.spots) }
+// Whether the layer has so many cases.
+fn is_full(layer: &Layer, most: u32) -> bool
+    ensures { IsTrue result ↔ (most ≤ length layer.now.spots) }
 {
-    layer.count() >= area_bound(inst)
+    layer.count() >= most
 }
 
 // The layer of a tree where it has more cases than the layer so far, else the layer so far.
@@ -38,7 +38,13 @@ fn improved(alloc: Global, layer: Layer, tree: &BlockTree) -> Result<Layer, Memo
 }
 
 // The layer so far, or that of the best cut of the whole pallet into five grids.
-fn after_first_level(alloc: Global, inst: Inst, layer: Layer) -> Result<Layer, Memory>
+fn after_first_level(
+    alloc: Global,
+    inst: Inst,
+    most: u32,
+    layer: Layer,
+) -> Result<Layer, Memory>
+    requires most { IsBounded inst most }
     requires layer { IsLayer layer.inst layer.spots }
     requires inst { layer.inst ≡ inst }
     ensures inst { IfOk result (λ a. a.inst ≡ inst) }
@@ -46,7 +52,7 @@ fn after_first_level(alloc: Global, inst: Inst, layer: Layer) -> Result<Layer, M
     ensures grown { IfOk result (λ a. length layer.spots ≤ length a.spots) }
     ensures first { IfOk result (λ a. ReachesFirst inst (length a.spots)) }
 {
-    if is_full(inst, &layer) {
+    if is_full(&layer, most) {
         return Ok(layer);
     }
     let tree = level_one(alloc, inst)?;
@@ -59,11 +65,13 @@ fn after_four_blocks(
     inst: Inst,
     px: &Points,
     py: &Points,
+    most: u32,
     layer: Layer,
 ) -> Result<Layer, Memory>
     requires px { ArePointsOf Axis.X inst px.now }
     requires py { ArePointsOf Axis.Y inst py.now }
     requires places { AreNormalPlaces inst px.now.normal py.now.normal }
+    requires most { IsBounded inst most }
     requires layer { IsLayer layer.inst layer.spots }
     requires inst { layer.inst ≡ inst }
     ensures inst { IfOk result (λ a. a.inst ≡ inst) }
@@ -71,7 +79,7 @@ fn after_four_blocks(
     ensures grown { IfOk result (λ a. length layer.spots ≤ length a.spots) }
     ensures four { IfOk result (λ a. ReachesFour inst (length a.spots)) }
 {
-    if is_full(inst, &layer) {
+    if is_full(&layer, most) {
         return Ok(layer);
     }
     if !is_four_size(px, py) {
@@ -87,11 +95,13 @@ fn after_five_blocks(
     inst: Inst,
     px: &Points,
     py: &Points,
+    most: u32,
     layer: Layer,
 ) -> Result<Layer, Memory>
     requires px { ArePointsOf Axis.X inst px.now }
     requires py { ArePointsOf Axis.Y inst py.now }
     requires places { AreNormalPlaces inst px.now.normal py.now.normal }
+    requires most { IsBounded inst most }
     requires layer { IsLayer layer.inst layer.spots }
     requires inst { layer.inst ≡ inst }
     ensures inst { IfOk result (λ a. a.inst ≡ inst) }
@@ -99,7 +109,7 @@ fn after_five_blocks(
     ensures grown { IfOk result (λ a. length layer.spots ≤ length a.spots) }
     ensures five { IfOk result (λ a. ReachesFive inst (length a.spots)) }
 {
-    if is_full(inst, &layer) {
+    if is_full(&layer, most) {
         return Ok(layer);
     }
     if !is_five_size(px, py) {
@@ -110,7 +120,13 @@ fn after_five_blocks(
 }
 
 // The layer so far, or that of four blocks or of five.
-fn after_closures(alloc: Global, inst: Inst, layer: Layer) -> Result<Layer, Memory>
+fn after_closures(
+    alloc: Global,
+    inst: Inst,
+    most: u32,
+    layer: Layer,
+) -> Result<Layer, Memory>
+    requires most { IsBounded inst most }
     requires layer { IsLayer layer.inst layer.spots }
     requires inst { layer.inst ≡ inst }
     ensures inst { IfOk result (λ a. a.inst ≡ inst) }
@@ -119,26 +135,27 @@ fn after_closures(alloc: Global, inst: Inst, layer: Layer) -> Result<Layer, Memo
     ensures four { IfOk result (λ a. ReachesFour inst (length a.spots)) }
     ensures five { IfOk result (λ a. ReachesFive inst (length a.spots)) }
 {
-    if is_full(inst, &layer) {
+    if is_full(&layer, most) {
         return Ok(layer);
     }
     let px = Points::of(alloc, inst.l_side, inst.long, inst.short)?;
     let py = Points::of(alloc, inst.w_side, inst.long, inst.short)?;
-    let layer = after_four_blocks(alloc, inst, &px, &py, layer)?;
-    after_five_blocks(alloc, inst, &px, &py, layer)
+    let layer = after_four_blocks(alloc, inst, &px, &py, most, layer)?;
+    after_five_blocks(alloc, inst, &px, &py, most, layer)
 }
 
-/// A layer of the pallet. It starts as the better grid; while it has fewer cases than the pallet's cells allow,
-/// the first level of five blocks, four blocks and five blocks are tried in turn, and a layer with more cases
-/// takes its place.
-pub fn plan_layer(alloc: Global, inst: Inst) -> Result<Layer, Memory>
-    requires { area_bound_of inst ≤ 1000 }
+/// A layer of the pallet. It starts as the better grid; while it has fewer than `most` cases, which no layout exceeds,
+/// the first level of five blocks, four blocks and five blocks are tried in turn, and a layer with more cases takes its
+/// place.
+pub fn layer_by_patterns(alloc: Global, inst: Inst, most: u32) -> Result<Layer, Memory>
+    requires most { IsBounded inst most }
+    requires few { most ≤ 1000 }
     ensures inst { IfOk result (λ a. a.inst ≡ inst) }
     ensures layer { IfOk result (λ a. IsLayer a.inst a.spots) }
-    ensures bounded { IfOk result (λ a. length a.spots ≤ area_bound_of inst) }
+    ensures bounded { IfOk result (λ a. length a.spots ≤ most) }
     ensures patterns { IfOk result (λ a. HoldsPatterns inst (length a.spots)) }
 {
     let layer = uniform(alloc, inst)?;
-    let layer = after_first_level(alloc, inst, layer)?;
-    after_closures(alloc, inst, layer)
+    let layer = after_first_level(alloc, inst, most, layer)?;
+    after_closures(alloc, inst, most, layer)
 }

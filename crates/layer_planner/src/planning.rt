@@ -1,4 +1,4 @@
-ghost use Rattle.std.specs.Prelude.{◌≡◌, ◌≤◌, IfOk};
+ghost use Rattle.std.specs.Prelude.{◌≡◌, ◌≤◌, ◌↔◌, IfOk};
 ghost use Rattle.order_reader.specs.Instances.{IsBoundFor};
 ghost use Rattle.cert_text.specs.declared.forms.Form.TheVariants.{Two};
 ghost use Rattle.plan_entries.specs.declared.entries.Entry.TheVariants.{Planned};
@@ -6,10 +6,24 @@ ghost use Rattle.plan_entries.specs.Ranges.{IsInRange};
 ghost use Rattle.plan_soundness.specs.Sound.{IsSound};
 ghost use Rattle.layer_planner.specs.Quality.{HasQuality, HasShortCert};
 
+use crate::listing::list_layer;
+use crate::settling::settle;
+use minimum_size::reduce;
 use order_reader::Order;
-use plan_entries::Plan;
+use plan_entries::{Plan, Status};
 use plan_memory::Memory;
 use std::alloc::Global;
+
+// Optimal exactly where count and bound are equal.
+fn status_of(count: u32, bound: u32) -> Status
+    ensures { (result ≡ Status.Optimal) ↔ (count ≡ bound) }
+{
+    if count == bound {
+        Status::Optimal
+    } else {
+        Status::StillOpen
+    }
+}
 
 /// The plan of an order, under a number from 1 to 256. The order's instance is reduced; its layer is the best of the
 /// block patterns, and then of a search while that is below the bounds known beforehand and no more than 500,000 states
@@ -25,5 +39,22 @@ pub fn plan_order(alloc: Global, order: &Order, number: u32) -> Result<Plan, Mem
     ensures in_range { IfOk result (λ p. IsInRange Two (Planned p)) }
     ensures short_cert { IfOk result (λ p. HasShortCert p.reduced p.cert) }
 {
-    Err(Memory)
+    let given = order.inst();
+    let reduced = reduce(given);
+    let settled = settle(alloc, given, reduced)?;
+    let count = settled.layer.count();
+    let listing = list_layer(alloc, order, given, &settled.layer)?;
+    let order = order.copied(alloc)?;
+    Ok(Plan {
+        number,
+        order,
+        reduced,
+        count,
+        bound: settled.known.bound,
+        status: status_of(count, settled.known.bound),
+        cert: settled.known.cert,
+        layers: listing.layers,
+        allowed: listing.allowed,
+        stack: listing.stack,
+    })
 }

@@ -6,10 +6,10 @@ use Rattle.layer_patterns.proofs.BoundLemmas.{block-few}
 use Rattle.layer_patterns.proofs.planning.after_closures.Goals as goal
 
 pub returns-then-is_full-clause-four : goal.returns-then-is_full-clause-four
-returns-then-is_full-clause-four c = λ z a b n x y h. let u = c.is_full.ensures.0 c.if-is_full.true in omega (arith, u, block-few c.args.inst Four a b n x y h)
+returns-then-is_full-clause-four c = λ z a b n x y h. let u = c.is_full.ensures.0 c.if-is_full.true in omega (arith, u, block-few c.args.inst c.args.most c.requires.most Four a b n x y h)
 
 pub returns-then-is_full-clause-five : goal.returns-then-is_full-clause-five
-returns-then-is_full-clause-five c = λ z a b n x y h. let u = c.is_full.ensures.0 c.if-is_full.true in omega (arith, u, block-few c.args.inst Five a b n x y h)
+returns-then-is_full-clause-five c = λ z a b n x y h. let u = c.is_full.ensures.0 c.if-is_full.true in omega (arith, u, block-few c.args.inst c.args.most c.requires.most Five a b n x y h)
 
 pub returns-clause-four : goal.returns-clause-four
 returns-clause-four c =

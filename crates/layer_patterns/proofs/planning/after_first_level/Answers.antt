@@ -6,7 +6,7 @@ use Rattle.layer_patterns.proofs.BoundLemmas.{first-few}
 use Rattle.layer_patterns.proofs.planning.after_first_level.Goals as goal
 
 pub returns-then-is_full-clause-first : goal.returns-then-is_full-clause-first
-returns-then-is_full-clause-first c = λ n h. let u = c.is_full.ensures.0 c.if-is_full.true in omega (arith, u, first-few c.args.inst n h)
+returns-then-is_full-clause-first c = λ n h. let u = c.is_full.ensures.0 c.if-is_full.true in omega (arith, u, first-few c.args.inst c.args.most c.requires.most n h)
 
 pub returns-clause-inst : goal.returns-clause-inst
 returns-clause-inst c = IfOk-weaker c.improved.result (λ a. a.inst ≡ c.args.layer.inst) (λ a. a.inst ≡ c.args.inst) (λ a e. e ∙ c.requires.inst) c.improved.ensures.inst

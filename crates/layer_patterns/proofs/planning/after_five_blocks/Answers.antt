@@ -9,7 +9,7 @@ use Rattle.layer_patterns.proofs.LayerLemmas.{never}
 use Rattle.layer_patterns.proofs.planning.after_five_blocks.Goals as goal
 
 pub returns-then-is_full-clause-five : goal.returns-then-is_full-clause-five
-returns-then-is_full-clause-five c = λ z a b n x y h. let u = c.is_full.ensures.0 c.if-is_full.true in omega (arith, u, block-few c.args.inst Five a b n x y h)
+returns-then-is_full-clause-five c = λ z a b n x y h. let u = c.is_full.ensures.0 c.if-is_full.true in omega (arith, u, block-few c.args.inst c.args.most c.requires.most Five a b n x y h)
 
 pub returns-then-not-is_five_size-clause-five : goal.returns-then-not-is_five_size-clause-five
 returns-then-not-is_five_size-clause-five c = λ z.

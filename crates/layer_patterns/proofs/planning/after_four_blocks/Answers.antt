@@ -9,7 +9,7 @@ use Rattle.layer_patterns.proofs.LayerLemmas.{never}
 use Rattle.layer_patterns.proofs.planning.after_four_blocks.Goals as goal
 
 pub returns-then-is_full-clause-four : goal.returns-then-is_full-clause-four
-returns-then-is_full-clause-four c = λ z a b n x y h. let u = c.is_full.ensures.0 c.if-is_full.true in omega (arith, u, block-few c.args.inst Four a b n x y h)
+returns-then-is_full-clause-four c = λ z a b n x y h. let u = c.is_full.ensures.0 c.if-is_full.true in omega (arith, u, block-few c.args.inst c.args.most c.requires.most Four a b n x y h)
 
 pub returns-then-not-is_four_size-clause-four : goal.returns-then-not-is_four_size-clause-four
 returns-then-not-is_four_size-clause-four c = λ z.
