@@ -31,13 +31,13 @@ abbrev pub IsAtMostStrip : Inst → ℕ → Type 0
 IsAtMostStrip I bound = (n : ℕ) → IsStripBoundOf I n → bound ≤ n
 
 -- the walk of the instance for more than so many cases, each counted at the least weight of a case under the lead of
--- the family, has more states than are visited
-pub record HasLongWalk (I : Inst) (count : ℕ) : Type 0 where
+-- the family, has more than so many states
+pub record HasLongWalk (I : Inst) (count states : ℕ) : Type 0 where
   pub lead : Weighting
   pub is_lead : IsLead I lead
   pub least : ℕ
   pub is_least : IsLeastWeight I (weight_of lead) least
-  pub longer : IsLonger I (weight_of lead) least count most_states
+  pub longer : IsLonger I (weight_of lead) least count states
 
 -- The instance is the reduced one of the order's own. The bound is at most each that is known beforehand: those of the
 -- family and of the strips of the reduced instance, and that of the area of the order's own. The count is at least each
@@ -51,8 +51,8 @@ pub record HasQuality (p : Plan) : Type 0 where
   pub strip : IsAtMostStrip p.reduced p.bound
   pub area : p.bound ≤ area_bound_of given
   pub patterns : HoldsPatterns p.reduced p.count
-  pub still_open : p.status ≡ StillOpen → HasLongWalk p.reduced p.count
-  pub decided : ¬ HasLongWalk p.reduced p.count → p.status ≡ Optimal
+  pub still_open : p.status ≡ StillOpen → HasLongWalk p.reduced p.count most_states
+  pub decided : ¬ HasLongWalk p.reduced p.count most_states → p.status ≡ Optimal
 
 -- the weighting is a table
 abbrev pub IsTable : Weighting → Type 0

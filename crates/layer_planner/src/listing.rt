@@ -29,10 +29,10 @@ fn listed_of(alloc: Global, images: &[(Move, Layer)]) -> Result<Vec<Listed>, Mem
     ensures { IfOk result (λ v. v.items ≡ map listed images.now) }
 {
     let mut layers = Vec::new(alloc);
-    for (turn, layer) in images {
-        let spots = layer.spots().to_vec(alloc)?;
+    for image in images {
+        let spots = image.1.spots().to_vec(alloc)?;
         layers.push(Listed {
-            turn: *turn,
+            turn: image.0,
             spots: Spots::new(spots),
         })?;
     }
@@ -55,11 +55,14 @@ pub fn list_layer(
 {
     let mapped = map_layer(alloc, layer, given)?;
     let images = variants(alloc, &mapped)?;
-    let allowed = layers_allowed(order, layer.count());
-    let stack = stack(alloc, order, images.as_slice(), allowed)?;
-    let layers = listed_of(alloc, images.as_slice())?;
+    let all = images.as_slice();
+    let count = layer.count();
+    let allowed = layers_allowed(order, count);
+    let stack = stack(alloc, order, all, allowed)?;
+    let list = listed_of(alloc, all)?;
+    let layers = Layers::new(list);
     Ok(Listing {
-        layers: Layers::new(layers),
+        layers,
         allowed,
         stack,
     })

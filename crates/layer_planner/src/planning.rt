@@ -43,6 +43,7 @@ pub fn plan_order(alloc: Global, order: &Order, number: u32) -> Result<Plan, Mem
     let reduced = reduce(given);
     let settled = settle(alloc, given, reduced)?;
     let count = settled.layer.count();
+    let status = status_of(count, settled.known.bound);
     let listing = list_layer(alloc, order, given, &settled.layer)?;
     let order = order.copied(alloc)?;
     Ok(Plan {
@@ -51,7 +52,7 @@ pub fn plan_order(alloc: Global, order: &Order, number: u32) -> Result<Plan, Mem
         reduced,
         count,
         bound: settled.known.bound,
-        status: status_of(count, settled.known.bound),
+        status,
         cert: settled.known.cert,
         layers: listing.layers,
         allowed: listing.allowed,

@@ -41,8 +41,10 @@ pub fn search(
     ensures { IfOk result (λ s. HasSearched inst (weight_of lead.now) (length start.spots) most s) }
 {
     let mut layer = start;
-    for count in layer.count()..most {
-        match exhaust(alloc, inst, lead, count, MOST_STATES)? {
+    let first = layer.count();
+    for count in first..most {
+        let walk = exhaust(alloc, inst, lead, count, MOST_STATES)?;
+        match walk {
             Walk::Found { layer: better } => layer = better,
             Walk::Refuted { tree } => return Ok(Searched::Refuted { layer, tree }),
             Walk::Spent { .. } => return Ok(Searched::Spent { layer }),

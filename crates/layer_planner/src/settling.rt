@@ -31,8 +31,10 @@ pub fn settle(alloc: Global, given: Inst, reduced: Inst) -> Result<Settled, Memo
     let lead = lead(reduced);
     let known = least_known(alloc, given, reduced, &lead)?;
     let layer = layer_by_patterns(alloc, reduced, known.bound)?;
-    match search(alloc, reduced, &lead, known.bound, layer)? {
-        Searched::Reached { layer } | Searched::Spent { layer } => Ok(Settled { layer, known }),
+    let found = search(alloc, reduced, &lead, known.bound, layer)?;
+    match found {
+        Searched::Reached { layer } => Ok(Settled { layer, known }),
+        Searched::Spent { layer } => Ok(Settled { layer, known }),
         Searched::Refuted { layer, tree } => {
             let bound = layer.count();
             let cert = Cert::Weighted {
