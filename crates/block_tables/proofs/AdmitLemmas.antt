@@ -87,9 +87,11 @@ mutual
       let t3 = part-made i pat p3 in
       let t4 = part-made i pat p4 in
       let t5 = centre-made i pat p5 in
-      let d = five a b x1 x2 y1 y2 (t1.0 ∷ t2.0 ∷ t3.0 ∷ t4.0 ∷ t5.0 ∷ []) in
-      (d, subst (λ m. Makes i a b m d) (sym e)
-      (five-makes i a b x1 x2 y1 y2 n1 n2 n3 n4 n5 c.x_order (raster-le i a x2 c.x2_raster) c.y_order (raster-le i b y2 c.y2_raster) t1.0 t2.0 t3.0 t4.0 t5.0 t1.1 t2.1 t3.1 t4.1 t5.1))
+      let d = five a b x1 x2 y1 y2 (t1.0 ∷ t2.0 ∷ t3.0 ∷ t4.0 ∷ t5.0 ∷ []) in (
+        d,
+        subst (λ m. Makes i a b m d) (sym e)
+            (five-makes i a b x1 x2 y1 y2 n1 n2 n3 n4 n5 c.x_order (raster-le i a x2 c.x2_raster) c.y_order (raster-le i b y2 c.y2_raster) t1.0 t2.0 t3.0 t4.0 t5.0 t1.1 t2.1 t3.1 t4.1 t5.1),
+      )
 
   part-made : (i : Inst) (pat : Pattern) {c d n : ℕ} → IsPartNumber i pat c d n → (t : Node) × Serves i c d n t
   part-made i pat {c = c} {d = d} (rounded {a = a} {b = b} u v f) =

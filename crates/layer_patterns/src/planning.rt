@@ -38,12 +38,7 @@ fn improved(alloc: Global, layer: Layer, tree: &BlockTree) -> Result<Layer, Memo
 }
 
 // The layer so far, or that of the best cut of the whole pallet into five grids.
-fn after_first_level(
-    alloc: Global,
-    inst: Inst,
-    most: u32,
-    layer: Layer,
-) -> Result<Layer, Memory>
+fn after_first_level(alloc: Global, inst: Inst, most: u32, layer: Layer) -> Result<Layer, Memory>
     requires most { IsBounded inst most }
     requires layer { IsLayer layer.inst layer.spots }
     requires inst { layer.inst ≡ inst }
@@ -120,12 +115,7 @@ fn after_five_blocks(
 }
 
 // The layer so far, or that of four blocks or of five.
-fn after_closures(
-    alloc: Global,
-    inst: Inst,
-    most: u32,
-    layer: Layer,
-) -> Result<Layer, Memory>
+fn after_closures(alloc: Global, inst: Inst, most: u32, layer: Layer) -> Result<Layer, Memory>
     requires most { IsBounded inst most }
     requires layer { IsLayer layer.inst layer.spots }
     requires inst { layer.inst ≡ inst }
