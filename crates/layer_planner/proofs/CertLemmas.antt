@@ -1,5 +1,5 @@
 -- Certificates by weights: what makes them accepted, how long they are, and that they have a text.
-use Rattle.std.proofs.Common.{◌≡◌, ◌≢◌, ℕ, Bool, true, false, ◌+◌, ◌/◌, ◌<◌, ◌≤◌, ◌⊎◌, List, [], ◌∷◌, length, sym, subst, refl, arith, inl, inr}
+use Rattle.std.proofs.Common.{◌≡◌, ◌≢◌, ℕ, suc, Bool, true, false, ◌+◌, ◌/◌, ◌<◌, ◌≤◌, ◌⊎◌, List, [], ◌∷◌, length, sym, subst, refl, arith, inl, inr}
 use Rattle.std.specs.Prelude.{nat_le, nat_lt, ◌&&◌, replicate}
 use Rattle.std.proofs.lemmas.Bool.{le-leb}
 use Rattle.plan_geometry.specs.declared.instances.Inst.{Inst}
@@ -42,14 +42,14 @@ lead-family I g b l w h n m k =
 -- ---- marks
 
 -- one leaf refutes more cases than the weights allow
-leaf-refutes : (I : Inst) (g : ℕ → ℕ → ℕ) (n : ℕ) → IsWeightBound I g n → IsRefutation I g n (Leaf ∷ [])
-leaf-refutes I g n w = record { least = w.least; is_least = w.is_least; refutes = (leaf, tt) } where
+leaf-refutes : (I : Inst) (g : ℕ → ℕ → ℕ) (n : ℕ) (w : IsWeightBound I g n) → Refutes I g w.least n (Leaf ∷ [])
+leaf-refutes I g n w = (leaf, tt) where
   leaf : 0 + above I g (start I) / w.least ≤ n
   leaf = let e : total_weight g I / w.least ≤ n = omega (arith, w.value) in
       let f : above I g (start I) / w.least ≤ n = subst (λ t. t / w.least ≤ n) (total-above I g) e in omega (arith, f)
 
 pub leaf-accepted : (I : Inst) (g : Weighting) (n : ℕ) → IsLead I g → IsWeightBound I (weight_of g) n → AcceptsWeighted I g n (Leaf ∷ [])
-leaf-accepted I g n l w = record { lawful = IsMember-lawful I g l.member; refutation = leaf-refutes I (weight_of g) n w; some = w.some }
+leaf-accepted I g n l w = record { lawful = IsMember-lawful I g l.member; refutation = record { least = w.least; is_least = w.is_least; refutes = leaf-refutes I (weight_of g) n w }; some = w.some }
 
 pub refuted-accepted : (I : Inst) (g : Weighting) (n : ℕ) (marks : List Mark) → IsLead I g → IsRefutation I (weight_of g) n marks → AcceptsWeighted I g n marks
 refuted-accepted I g n marks l r = record {
@@ -78,12 +78,12 @@ pub member-text : (I : Inst) (g : Weighting) → IsMember I g → is_weighting T
 member-text I Area m = refl
 member-text I (Colour k c) m =
     let k_small = side-small I k m.0 in
-    both _ _ (le-leb 1 k k_small.0) (both _ _ (le-leb k 4000 k_small.1) (le-leb (c + 1) k (omega (arith, m.1))))
+    both _ _ (le-leb 1 k k_small.0) (both _ _ (le-leb k 4000 k_small.1) (le-leb (suc c) k (omega (arith, m.1))))
 member-text I (Comb p a r b) m =
     let p_small = side-small I p m.0 in
     let r_small = side-small I r m.2 in
-    both _ _ (le-leb 1 p p_small.0) (both _ _ (le-leb p 4000 p_small.1) (both _ _ (le-leb (a + 1) p (omega (arith, m.1)))
-    (both _ _ (le-leb 1 r r_small.0) (both _ _ (le-leb r 4000 r_small.1) (le-leb (b + 1) r (omega (arith, m.3)))))))
+    both _ _ (le-leb 1 p p_small.0) (both _ _ (le-leb p 4000 p_small.1) (both _ _ (le-leb (suc a) p (omega (arith, m.1)))
+    (both _ _ (le-leb 1 r r_small.0) (both _ _ (le-leb r 4000 r_small.1) (le-leb (suc b) r (omega (arith, m.3)))))))
 member-text I (Table t) m = absurd m
 
 pub tree-text : (marks : List Mark) → 1 ≤ length marks → length marks ≤ 500000 → is_tree marks ≡ true

@@ -38,12 +38,11 @@ variants-same I n (v ∷ vs) a =
     ∙ ap (λ ws. v ∷ ws) (variants-same I n vs (All-tail (IsLayerOf I n) v vs a))
 
 first-same : (vs : List (Move × Placed)) (p : Placed) → slice_get vs 0 ≡ Some (Same, p) → first_spots (map listed vs) ≡ p.spots
-first-same [] p e = absurd (no e) where
-  no : None ≡ Some (Same, p) → ⊥
-  no e = cc
-first-same (v ∷ vs) p e = ap (λ w. w.1.spots) (same e) where
-  same : Some v ≡ Some (Same, p) → v ≡ (Same, p)
-  same e = cc
+first-same [] p e = let lt = slice_get_within [] 0 (Same, p) e in absurd (omega (arith, lt))
+first-same (v ∷ vs) p e =
+    let w : Move × Placed = (Same, p) in
+    let same : v ≡ w = cc e in
+    ap (λ (u : Move × Placed). u.1.spots) same
 
 each-layer : (o : OrderValue) (I : Inst) (n : ℕ) (vs : List (Move × Placed)) → ((spots : List Spot) → IsLayerFor o spots ↔ IsLayout I spots) → All (IsLayerOf I n) vs
     → All (IsListedLayer o n) (map listed vs)

@@ -140,7 +140,7 @@ few-shorts axis I s a =
       | inl lt ↦ (let x = small 4001 lt in absurd (omega (arith, x.0)))
       | inr ge ↦ ge
     ] in
-    (omega arith, omega arith, omega arith, omega arith, few-each_two s (few-each s (λ k lt. (small k lt).1)) short)
+    (omega arith, omega arith, (omega arith, omega arith, few-each_two s (few-each s (λ k lt. (small k lt).1)) short))
 
 axis-text : (axis : Axis) (I : Inst) (cs : List StripCut) → AreAxisCuts axis I cs → list_all is_cut cs ≡ true
 axis-text axis I cs a = lines-text axis I (counts_of a.shorts) cs (few-shorts axis I a.shorts a.are_shorts) a.are_cuts

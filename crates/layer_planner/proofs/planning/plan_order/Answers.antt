@@ -33,14 +33,14 @@ returns-clause-sound c =
     let l = c.in_ok-listing.listing in
     let p : AreParts o g r c.count-count.result c.status_of-status.result s l = record {
       is_order = c.inst-given.ensures.order;
-      given = c.inst-given.ensures.given;
+      is_given = c.inst-given.ensures.given;
       few = c.inst-given.ensures.few;
       bounds = c.inst-given.ensures.bounds;
-      reduced = c.reduce-reduced.ensures.reduced;
+      is_reduced = c.reduce-reduced.ensures.reduced;
       settled = c.in_ok-settled.ensures;
-      count = c.count-count.ensures.value;
+      counted = c.count-count.ensures.value;
       listing = c.in_ok-listing.ensures;
-      status = c.status_of-status.ensures;
+      tells = c.status_of-status.ensures;
     } in
     subst (λ w. IsSound (plan c.args.number w r c.count-count.result c.status_of-status.result s l)) (sym c.in_ok-order.ensures) (plan-sound c.args.number o g r c.count-count.result c.status_of-status.result s l p)
 
@@ -53,14 +53,14 @@ returns-clause-quality c =
     let l = c.in_ok-listing.listing in
     let p : AreParts o g r c.count-count.result c.status_of-status.result s l = record {
       is_order = c.inst-given.ensures.order;
-      given = c.inst-given.ensures.given;
+      is_given = c.inst-given.ensures.given;
       few = c.inst-given.ensures.few;
       bounds = c.inst-given.ensures.bounds;
-      reduced = c.reduce-reduced.ensures.reduced;
+      is_reduced = c.reduce-reduced.ensures.reduced;
       settled = c.in_ok-settled.ensures;
-      count = c.count-count.ensures.value;
+      counted = c.count-count.ensures.value;
       listing = c.in_ok-listing.ensures;
-      status = c.status_of-status.ensures;
+      tells = c.status_of-status.ensures;
     } in
     subst (λ w. HasQuality (plan c.args.number w r c.count-count.result c.status_of-status.result s l)) (sym c.in_ok-order.ensures) (plan-quality c.args.number o g r c.count-count.result c.status_of-status.result s l p)
 
@@ -73,14 +73,14 @@ returns-clause-bounded c =
     let l = c.in_ok-listing.listing in
     let p : AreParts o g r c.count-count.result c.status_of-status.result s l = record {
       is_order = c.inst-given.ensures.order;
-      given = c.inst-given.ensures.given;
+      is_given = c.inst-given.ensures.given;
       few = c.inst-given.ensures.few;
       bounds = c.inst-given.ensures.bounds;
-      reduced = c.reduce-reduced.ensures.reduced;
+      is_reduced = c.reduce-reduced.ensures.reduced;
       settled = c.in_ok-settled.ensures;
-      count = c.count-count.ensures.value;
+      counted = c.count-count.ensures.value;
       listing = c.in_ok-listing.ensures;
-      status = c.status_of-status.ensures;
+      tells = c.status_of-status.ensures;
     } in
     subst (λ w. IsBoundFor w s.known.bound) (sym c.in_ok-order.ensures) (plan-bounded o g r c.count-count.result c.status_of-status.result s l p)
 
@@ -93,14 +93,14 @@ returns-clause-in_range c =
     let l = c.in_ok-listing.listing in
     let p : AreParts o g r c.count-count.result c.status_of-status.result s l = record {
       is_order = c.inst-given.ensures.order;
-      given = c.inst-given.ensures.given;
+      is_given = c.inst-given.ensures.given;
       few = c.inst-given.ensures.few;
       bounds = c.inst-given.ensures.bounds;
-      reduced = c.reduce-reduced.ensures.reduced;
+      is_reduced = c.reduce-reduced.ensures.reduced;
       settled = c.in_ok-settled.ensures;
-      count = c.count-count.ensures.value;
+      counted = c.count-count.ensures.value;
       listing = c.in_ok-listing.ensures;
-      status = c.status_of-status.ensures;
+      tells = c.status_of-status.ensures;
     } in
     subst (λ w. IsInRange Two (Planned (plan c.args.number w r c.count-count.result c.status_of-status.result s l))) (sym c.in_ok-order.ensures) (plan-text c.args.number o g r c.count-count.result c.status_of-status.result s l c.requires.some c.requires.few p)
 
