@@ -22,12 +22,7 @@ pub struct Known {
 }
 
 // The bound of the lead, which its weights show with no branch.
-fn by_lead(
-    alloc: Global,
-    given: Inst,
-    reduced: Inst,
-    lead: &Weighting,
-) -> Result<Known, Memory>
+fn by_lead(alloc: Global, given: Inst, reduced: Inst, lead: &Weighting) -> Result<Known, Memory>
     requires same { SameSides given reduced }
     requires fits { CaseFits reduced }
     requires lead { IsLead reduced lead.now }
