@@ -3,3 +3,4 @@ pub mod EntryLemmas
 pub mod StepLemmas
 pub mod KeepLemmas
 pub mod BuildLemmas
+pub mod AdmitLemmas

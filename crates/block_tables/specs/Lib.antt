@@ -1,3 +1,4 @@
 pub mod Numbers
 pub mod Tables
 pub mod Built
+pub mod Admitted

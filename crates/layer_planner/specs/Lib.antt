@@ -1,1 +1,4 @@
-pub mod Patterns
+pub mod Quality
+pub mod Searched
+pub mod Known
+pub mod Listing

@@ -1,53 +1,13 @@
-// The layer that is planned for an instance, by one pattern of blocks after another.
+//! The plan of an order: a layer of many cases, a bound on the cases of any layer with what shows it, and the stack.
 #![tactic(auto)]
 
+mod bounds;
+mod listing;
 mod planning;
+mod search;
+mod settling;
 
-pub use planning::plan_layer;
+pub use planning::plan_order;
 
 #[cfg(test)]
-mod tests {
-    use crate::plan_layer;
-    use plan_geometry::{Inst, Spot, Way, area_bound};
-    use std::test::Fail;
-
-    fn spot(x: u32, y: u32, way: Way) -> Spot {
-        Spot { x, y, way }
-    }
-
-    #[test]
-    fn round_a_centre(rt: HostRuntime) -> Result<(), Fail> {
-        let inst = Inst::new(5, 5, 3, 2).ok_or("sides")?;
-        if area_bound(inst) > 1000 {
-            return Err("too many cases".into());
-        }
-        let layer = plan_layer(rt.alloc(), inst)?;
-        let round = [
-            spot(0, 0, Way::Lying),
-            spot(3, 0, Way::Standing),
-            spot(0, 2, Way::Standing),
-            spot(2, 3, Way::Lying),
-        ];
-        assert!(rt; layer.spots() == round.as_slice());
-        Ok(())
-    }
-
-    // By the better grid, by four blocks, and below what the cells allow.
-    #[test]
-    fn counts(rt: HostRuntime) -> Result<(), Fail> {
-        let instances = [
-            ((1200, 800, 400, 300), 8),
-            ((11, 10, 4, 3), 9),
-            ((19, 12, 7, 2), 14),
-        ];
-        for ((l_side, w_side, long, short), count) in instances {
-            let inst = Inst::new(l_side, w_side, long, short).ok_or("sides")?;
-            if area_bound(inst) > 1000 {
-                return Err("too many cases".into());
-            }
-            let layer = plan_layer(rt.alloc(), inst)?;
-            assert_eq!(rt; layer.count(), count);
-        }
-        Ok(())
-    }
-}
+mod tests;

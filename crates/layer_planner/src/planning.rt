@@ -1,144 +1,61 @@
-ghost use Rattle.std.specs.Prelude.{◌≡◌, ◌≤◌, ◌↔◌, length, max, IsTrue, IfOk};
-ghost use Rattle.plan_geometry.specs.Layout.{area_bound_of};
-ghost use Rattle.plan_geometry.specs.Placed.{IsLayer};
-ghost use Rattle.raster_points.specs.Points.{ArePointsOf};
-ghost use Rattle.block_tree.specs.Trees.{held_count};
-ghost use Rattle.layer_planner.specs.Patterns.{AreNormalPlaces, ReachesFirst, ReachesFour, ReachesFive, HoldsPatterns};
+ghost use Rattle.std.specs.Prelude.{◌≡◌, ◌≤◌, ◌↔◌, IfOk};
+ghost use Rattle.order_reader.specs.Instances.{IsBoundFor};
+ghost use Rattle.cert_text.specs.declared.forms.Form.TheVariants.{Two};
+ghost use Rattle.plan_entries.specs.declared.entries.Entry.TheVariants.{Planned};
+ghost use Rattle.plan_entries.specs.Ranges.{IsInRange};
+ghost use Rattle.plan_soundness.specs.Sound.{IsSound};
+ghost use Rattle.layer_planner.specs.Quality.{HasQuality, HasShortCert};
 
-use block_tree::BlockTree;
-use five_block::{five_closure, is_five_size, level_one};
-use g4_patterns::{four_closure, is_four_size};
-use plan_geometry::{Axis, Inst, Layer, area_bound, uniform};
+use crate::listing::list_layer;
+use crate::settling::settle;
+use minimum_size::reduce;
+use order_reader::Order;
+use plan_entries::{Plan, Status};
 use plan_memory::Memory;
-use raster_points::Points;
 use std::alloc::Global;
 
-// Whether no layer of the instance has more cases, by the cells of the pallet.
-fn is_full(inst: Inst, layer: &Layer) -> bool
-    ensures { IsTrue result ↔ (area_bound_of inst ≤ length layer.now.spots) }
+// Optimal exactly where count and bound are equal.
+fn status_of(count: u32, bound: u32) -> Status
+    ensures { (result ≡ Status.Optimal) ↔ (count ≡ bound) }
 {
-    layer.count() >= area_bound(inst)
+    if count == bound {
+        Status::Optimal
+    } else {
+        Status::StillOpen
+    }
 }
 
-// The layer of a tree where it has more cases than the layer so far, else the layer so far.
-fn improved(alloc: Global, layer: Layer, tree: &BlockTree) -> Result<Layer, Memory>
-    requires layer { IsLayer layer.inst layer.spots }
-    requires inst { tree.now.inst ≡ layer.inst }
-    ensures inst { IfOk result (λ a. a.inst ≡ layer.inst) }
-    ensures layer { IfOk result (λ a. IsLayer a.inst a.spots) }
-    ensures count { IfOk result (λ a. length a.spots
-        ≡ max (length layer.spots) (held_count tree.now.inst tree.now.root.region tree.now.root.block)) }
-    ensures kept { IfOk result (λ a. held_count tree.now.inst tree.now.root.region tree.now.root.block
-        ≤ length layer.spots → a ≡ layer) }
+/// The plan of an order, under a number from 1 to 256. The order's instance is reduced; its layer is the best of the
+/// block patterns, and then of a search while that is below the bounds known beforehand and no more than 500,000 states
+/// are to be visited for one case more.
+pub fn plan_order(alloc: Global, order: &Order, number: u32) -> Result<Plan, Memory>
+    requires some { 1 ≤ number }
+    requires few { number ≤ 256 }
+    ensures number { IfOk result (λ p. p.number ≡ number) }
+    ensures order { IfOk result (λ p. p.order ≡ order.now) }
+    ensures sound { IfOk result (λ p. IsSound p) }
+    ensures quality { IfOk result (λ p. HasQuality p) }
+    ensures bounded { IfOk result (λ p. IsBoundFor p.order p.bound) }
+    ensures in_range { IfOk result (λ p. IsInRange Two (Planned p)) }
+    ensures short_cert { IfOk result (λ p. HasShortCert p.reduced p.cert) }
 {
-    if tree.held() <= layer.count() {
-        return Ok(layer);
-    }
-    tree.draw(alloc)
-}
-
-// The layer so far, or that of the best cut of the whole pallet into five grids.
-fn after_first_level(alloc: Global, inst: Inst, layer: Layer) -> Result<Layer, Memory>
-    requires layer { IsLayer layer.inst layer.spots }
-    requires inst { layer.inst ≡ inst }
-    ensures inst { IfOk result (λ a. a.inst ≡ inst) }
-    ensures layer { IfOk result (λ a. IsLayer a.inst a.spots) }
-    ensures grown { IfOk result (λ a. length layer.spots ≤ length a.spots) }
-    ensures first { IfOk result (λ a. ReachesFirst inst (length a.spots)) }
-{
-    if is_full(inst, &layer) {
-        return Ok(layer);
-    }
-    let tree = level_one(alloc, inst)?;
-    improved(alloc, layer, &tree)
-}
-
-// The layer so far, or that of four blocks.
-fn after_four_blocks(
-    alloc: Global,
-    inst: Inst,
-    px: &Points,
-    py: &Points,
-    layer: Layer,
-) -> Result<Layer, Memory>
-    requires px { ArePointsOf Axis.X inst px.now }
-    requires py { ArePointsOf Axis.Y inst py.now }
-    requires places { AreNormalPlaces inst px.now.normal py.now.normal }
-    requires layer { IsLayer layer.inst layer.spots }
-    requires inst { layer.inst ≡ inst }
-    ensures inst { IfOk result (λ a. a.inst ≡ inst) }
-    ensures layer { IfOk result (λ a. IsLayer a.inst a.spots) }
-    ensures grown { IfOk result (λ a. length layer.spots ≤ length a.spots) }
-    ensures four { IfOk result (λ a. ReachesFour inst (length a.spots)) }
-{
-    if is_full(inst, &layer) {
-        return Ok(layer);
-    }
-    if !is_four_size(px, py) {
-        return Ok(layer);
-    }
-    let tree = four_closure(alloc, inst, px, py)?;
-    improved(alloc, layer, &tree)
-}
-
-// The layer so far, or that of five blocks.
-fn after_five_blocks(
-    alloc: Global,
-    inst: Inst,
-    px: &Points,
-    py: &Points,
-    layer: Layer,
-) -> Result<Layer, Memory>
-    requires px { ArePointsOf Axis.X inst px.now }
-    requires py { ArePointsOf Axis.Y inst py.now }
-    requires places { AreNormalPlaces inst px.now.normal py.now.normal }
-    requires layer { IsLayer layer.inst layer.spots }
-    requires inst { layer.inst ≡ inst }
-    ensures inst { IfOk result (λ a. a.inst ≡ inst) }
-    ensures layer { IfOk result (λ a. IsLayer a.inst a.spots) }
-    ensures grown { IfOk result (λ a. length layer.spots ≤ length a.spots) }
-    ensures five { IfOk result (λ a. ReachesFive inst (length a.spots)) }
-{
-    if is_full(inst, &layer) {
-        return Ok(layer);
-    }
-    if !is_five_size(px, py) {
-        return Ok(layer);
-    }
-    let tree = five_closure(alloc, inst, px, py)?;
-    improved(alloc, layer, &tree)
-}
-
-// The layer so far, or that of four blocks or of five.
-fn after_closures(alloc: Global, inst: Inst, layer: Layer) -> Result<Layer, Memory>
-    requires layer { IsLayer layer.inst layer.spots }
-    requires inst { layer.inst ≡ inst }
-    ensures inst { IfOk result (λ a. a.inst ≡ inst) }
-    ensures layer { IfOk result (λ a. IsLayer a.inst a.spots) }
-    ensures grown { IfOk result (λ a. length layer.spots ≤ length a.spots) }
-    ensures four { IfOk result (λ a. ReachesFour inst (length a.spots)) }
-    ensures five { IfOk result (λ a. ReachesFive inst (length a.spots)) }
-{
-    if is_full(inst, &layer) {
-        return Ok(layer);
-    }
-    let px = Points::of(alloc, inst.l_side, inst.long, inst.short)?;
-    let py = Points::of(alloc, inst.w_side, inst.long, inst.short)?;
-    let layer = after_four_blocks(alloc, inst, &px, &py, layer)?;
-    after_five_blocks(alloc, inst, &px, &py, layer)
-}
-
-/// A layer of the pallet. It starts as the better grid; while it has fewer cases than the pallet's cells allow,
-/// the first level of five blocks, four blocks and five blocks are tried in turn, and a layer with more cases
-/// takes its place.
-pub fn plan_layer(alloc: Global, inst: Inst) -> Result<Layer, Memory>
-    requires { area_bound_of inst ≤ 1000 }
-    ensures inst { IfOk result (λ a. a.inst ≡ inst) }
-    ensures layer { IfOk result (λ a. IsLayer a.inst a.spots) }
-    ensures bounded { IfOk result (λ a. length a.spots ≤ area_bound_of inst) }
-    ensures patterns { IfOk result (λ a. HoldsPatterns inst (length a.spots)) }
-{
-    let layer = uniform(alloc, inst)?;
-    let layer = after_first_level(alloc, inst, layer)?;
-    after_closures(alloc, inst, layer)
+    let given = order.inst();
+    let reduced = reduce(given);
+    let settled = settle(alloc, given, reduced)?;
+    let count = settled.layer.count();
+    let status = status_of(count, settled.known.bound);
+    let listing = list_layer(alloc, order, given, &settled.layer)?;
+    let order = order.copied(alloc)?;
+    Ok(Plan {
+        number,
+        order,
+        reduced,
+        count,
+        bound: settled.known.bound,
+        status,
+        cert: settled.known.cert,
+        layers: listing.layers,
+        allowed: listing.allowed,
+        stack: listing.stack,
+    })
 }

@@ -139,8 +139,8 @@ impl WeightTable {
         )
     }
 
-    // The weight of the a by b cells from (x, y) on.
-    fn weight_from(&self, x: u32, y: u32, a: u32, b: u32) -> u32
+    /// The weight of the a by b cells from (x, y) on, in four reads.
+    pub fn weight_from(&self, x: u32, y: u32, a: u32, b: u32) -> u32
         requires across { x + a ≤ self.now.x_side }
         requires along { y + b ≤ self.now.y_side }
         ensures value { result ≡ block_weight (cell_of self.now) x y a b }

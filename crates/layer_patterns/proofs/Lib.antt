@@ -1,0 +1,3 @@
+pub mod PlaceLemmas
+pub mod BoundLemmas
+pub mod LayerLemmas

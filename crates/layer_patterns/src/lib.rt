@@ -1,0 +1,55 @@
+//! A layer for an instance, by one pattern of blocks after another, up to a number that no layout exceeds.
+#![tactic(auto)]
+
+mod planning;
+
+pub use planning::layer_by_patterns;
+
+#[cfg(test)]
+mod tests {
+    use crate::layer_by_patterns;
+    use plan_geometry::{Inst, Spot, Way, area_bound};
+    use std::test::Fail;
+
+    fn spot(x: u32, y: u32, way: Way) -> Spot {
+        Spot { x, y, way }
+    }
+
+    #[test]
+    fn round_a_centre(rt: HostRuntime) -> Result<(), Fail> {
+        let inst = Inst::new(5, 5, 3, 2).ok_or("sides")?;
+        let most = area_bound(inst);
+        if most > 1000 {
+            return Err("too many cases".into());
+        }
+        let layer = layer_by_patterns(rt.alloc(), inst, most)?;
+        let round = [
+            spot(0, 0, Way::Lying),
+            spot(3, 0, Way::Standing),
+            spot(0, 2, Way::Standing),
+            spot(2, 3, Way::Lying),
+        ];
+        assert!(rt; layer.spots() == round.as_slice());
+        Ok(())
+    }
+
+    // By the better grid, by four blocks, and below what the cells allow.
+    #[test]
+    fn counts(rt: HostRuntime) -> Result<(), Fail> {
+        let instances = [
+            ((1200, 800, 400, 300), 8),
+            ((11, 10, 4, 3), 9),
+            ((19, 12, 7, 2), 14),
+        ];
+        for ((l_side, w_side, long, short), count) in instances {
+            let inst = Inst::new(l_side, w_side, long, short).ok_or("sides")?;
+            let most = area_bound(inst);
+            if most > 1000 {
+                return Err("too many cases".into());
+            }
+            let layer = layer_by_patterns(rt.alloc(), inst, most)?;
+            assert_eq!(rt; layer.count(), count);
+        }
+        Ok(())
+    }
+}

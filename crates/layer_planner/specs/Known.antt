@@ -1,0 +1,32 @@
+-- Bounds that are known, and a layer with the bound that is left of them.
+use Rattle.std.specs.Prelude.{◌≡◌, ℕ, ◌≤◌, ◌⊎◌, length}
+use Rattle.plan_geometry.specs.declared.instances.Inst.{Inst}
+use Rattle.plan_geometry.specs.Layout.{area_bound_of}
+use Rattle.plan_geometry.specs.Placed.{IsLayer}
+use Rattle.bound_checker.specs.Accepts.{Accepts}
+use Rattle.cert_text.specs.declared.forms.Form.TheVariants.{Two}
+use Rattle.cert_text.specs.Ranges.{InRange}
+use Rattle.layer_patterns.specs.Patterns.{HoldsPatterns}
+use Rattle.layer_planner.specs.declared.bounds.Known.{Known}
+use Rattle.layer_planner.specs.declared.settling.Settled.{Settled}
+use Rattle.layer_planner.specs.Quality.{most_states, IsAtMostFamily, IsAtMostStrip, HasLongWalk, HasShortCert}
+
+-- the certificate shows the bound, is not long, and, where the bound has a text, has one
+pub record IsKnown (given reduced : Inst) (known : Known) : Type 0 where
+  pub accepted : Accepts given reduced known.cert known.bound
+  pub short : HasShortCert reduced known.cert
+  pub in_range : known.bound ≤ 1000 → InRange Two known.cert
+
+-- A layer of the reduced instance, and a bound with what shows it: the bound is at most each that is known beforehand,
+-- the layer has at least the cases of each pattern, and no walk for one case more is left to be gone.
+pub record IsSettled (given reduced : Inst) (s : Settled) : Type 0 where
+  pub inst : s.layer.inst ≡ reduced
+  pub layer : IsLayer s.layer.inst s.layer.spots
+  pub some : 1 ≤ length s.layer.spots
+  pub within : length s.layer.spots ≤ s.known.bound
+  pub known : IsKnown given reduced s.known
+  pub family : IsAtMostFamily reduced s.known.bound
+  pub strip : IsAtMostStrip reduced s.known.bound
+  pub area : s.known.bound ≤ area_bound_of given
+  pub patterns : HoldsPatterns reduced (length s.layer.spots)
+  pub decided : (length s.layer.spots ≡ s.known.bound) ⊎ HasLongWalk reduced (length s.layer.spots) most_states

@@ -1,0 +1,48 @@
+// The layer of the reduced instance, and the bound that is left.
+ghost use Rattle.std.specs.Prelude.{◌≡◌, ◌≤◌, IfOk};
+ghost use Rattle.plan_geometry.specs.Layout.{CaseFits, area_bound_of};
+ghost use Rattle.partitions.specs.Partitions.{SameSides};
+ghost use Rattle.layer_planner.specs.Known.{IsSettled};
+
+use crate::bounds::{Known, least_known};
+use crate::search::{Searched, search};
+use layer_patterns::layer_by_patterns;
+use plan_geometry::{Inst, Layer};
+use plan_memory::Memory;
+use std::alloc::Global;
+use weightings::{Cert, lead};
+
+/// A layer of the reduced instance, and a bound on the cases of all.
+#[derive(Drop)]
+pub struct Settled {
+    pub layer: Layer,
+    pub known: Known,
+}
+
+/// The layer of the best pattern, and then of the search, and the least bound: that of the search where it ends, else the
+/// least that is known beforehand.
+pub fn settle(alloc: Global, given: Inst, reduced: Inst) -> Result<Settled, Memory>
+    requires same { SameSides given reduced }
+    requires fits { CaseFits reduced }
+    requires few { area_bound_of reduced ≤ 10000 }
+    requires given_few { area_bound_of given ≤ 1000 }
+    ensures { IfOk result (λ s. IsSettled given reduced s) }
+{
+    let lead = lead(reduced);
+    let known = least_known(alloc, given, reduced, &lead)?;
+    let layer = layer_by_patterns(alloc, reduced, known.bound)?;
+    let found = search(alloc, reduced, &lead, known.bound, layer)?;
+    match found {
+        Searched::Reached { layer } => Ok(Settled { layer, known }),
+        Searched::Spent { layer } => Ok(Settled { layer, known }),
+        Searched::Refuted { layer, tree } => {
+            let bound = layer.count();
+            let cert = Cert::Weighted {
+                weighting: lead,
+                tree,
+            };
+            let known = Known { bound, cert };
+            Ok(Settled { layer, known })
+        }
+    }
+}
