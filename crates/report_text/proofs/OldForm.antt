@@ -1,28 +1,25 @@
 -- What is within the first form's ranges is within today's.
-use Rattle.std.proofs.Common.{◌≡◌, ℕ, ◌≤◌, ◌+◌, List, [], ◌∷◌, length, refl, subst, arith, Bool, true, leb}
+use Rattle.std.proofs.Common.{◌≡◌, ℕ, ◌≤◌, ◌+◌, List, [], ◌∷◌, length, refl, arith, true, leb}
 use Rattle.std.specs.Prelude.{◌&&◌, not, is_some}
 use Rattle.std.specs.List.{list_all}
 use Rattle.std.proofs.lemmas.Bool.{leb-true, le-leb}
 use Rattle.texts.proofs.Parsers.{both_true}
 use Rattle.weightings.specs.declared.kinds.Weighting.{Weighting}
 use Rattle.weightings.specs.declared.kinds.Weighting.TheVariants as weightings
-use Rattle.weightings.specs.declared.certs.StripCut.{StripCut}
 use Rattle.weightings.specs.declared.certs.Cert.{Cert}
 use Rattle.weightings.specs.declared.certs.Cert.TheVariants as certs
 use Rattle.cert_text.specs.Ranges.{is_weighting, is_tree, is_cut, InRange}
 use Rattle.cert_text.specs.declared.forms.Form.TheVariants.{One, Two}
 use Rattle.order_reader.specs.Faults.{order_fault}
 use Rattle.order_reader.specs.Orders.{OrderValue}
-use Rattle.order_reader.specs.declared.fields.Field.{Field}
 use Rattle.order_reader.specs.declared.faults.RowFault.{RowFault}
 use Rattle.order_reader.specs.declared.faults.RowFault.TheVariants as faults
-use Rattle.plan_entries.specs.Entries.{number_of_entry}
 use Rattle.plan_entries.specs.Ranges.{is_within, has_orders_of, order_in_range, fault_in_range, IsInRange}
 use Rattle.plan_entries.specs.declared.entries.Entry.{Entry}
 use Rattle.plan_entries.specs.declared.entries.Entry.TheVariants.{Planned, Refused}
 use Rattle.report_text.specs.Reports.{AreNumberedFrom, AreReported}
 use Rattle.report_text.proofs.EntryWords.{IsWithin, within_is, is_within_from}
-use Rattle.report_text.proofs.EntryReaders.{PlanParts, plan_parts, plan_from_parts}
+use Rattle.report_text.proofs.EntryReaders.{plan_parts, plan_from_parts}
 use Rattle.std.proofs.Common.{eqb}
 
 within_more : (low high n : ℕ) → low ≤ high → IsWithin low n → IsWithin high n

@@ -1,16 +1,14 @@
 -- What reading a report says of the bytes.
-use Rattle.std.proofs.Common.{◌≡◌, ◌≢◌, ℕ, zero, suc, ◌≤◌, ◌<◌, ◌+◌, ◌-◌, List, [], ◌∷◌, ◌++◌, length, Ok, Err, refl, sym, ap, subst, ◌∙◌, append_assoc, arith}
-use Rattle.std.specs.List.{flat_map, AllByRecursion}
+use Rattle.std.proofs.Common.{◌≡◌, ℕ, suc, ◌≤◌, ◌<◌, ◌+◌, ◌-◌, List, [], ◌∷◌, ◌++◌, length, Ok, Err, refl, sym, ap, subst, ◌∙◌, append_assoc, arith}
 use Rattle.std.proofs.lemmas.List.{append-nil, length-append, nil_from_length}
 use Rattle.std.proofs.lemmas.List.Concat.{flat_map-cons, flat_map-append}
 use Rattle.texts.specs.Lines.{ended, text_of, whole_lines, unfinished}
-use Rattle.texts.specs.Grammar.{Begins, NoneGoesOn, Reads, Reading, ◌>>=◌, first_by}
+use Rattle.texts.specs.Grammar.{NoneGoesOn, Reading, ◌>>=◌, first_by}
 use Rattle.texts.specs.Spelling.{FaultsAt, HasOneSpelling}
-use Rattle.texts.proofs.LineEnds.{IsPlain, whole_text, unfinished_text, whole_is, taken_is}
-use Rattle.texts.proofs.Readers.{bind_ok, bind_err, ok_is, one_spelling}
-use Rattle.texts.proofs.Bytes.{Got, got, got_again, same_value, no_fault, Stopped, stopped, has_one_spelling}
+use Rattle.texts.proofs.LineEnds.{whole_text, unfinished_text, whole_is, taken_is}
+use Rattle.texts.proofs.Readers.{bind_ok, ok_is, one_spelling}
+use Rattle.texts.proofs.Bytes.{Got, got, got_again, no_fault, Stopped, stopped, has_one_spelling}
 use Rattle.cert_text.specs.declared.forms.Form.{Form}
-use Rattle.plan_entries.specs.Entries.{number_of_entry}
 use Rattle.plan_entries.specs.Ranges.{most_entries, IsInRange}
 use Rattle.plan_entries.specs.declared.entries.Entry.{Entry}
 use Rattle.report_text.specs.Text.{entry_lines, entry_text, BeginsWithEntry}
@@ -18,8 +16,7 @@ use Rattle.report_text.specs.ReportLines.{form_of, entries_from, counted, entrie
 use Rattle.report_text.specs.Reports.{Report, head_line, done_line, entries_lines, report_lines, head_text, entries_text, done_text, report_text, AreNumberedFrom, AreReported, IsReport}
 use Rattle.report_text.specs.Cursors.{entries_in, entries_of, IsRest}
 use Rattle.report_text.specs.ReportAnswers.{IsReportIn}
-use Rattle.report_text.proofs.EntryReaders.{carried}
-use Rattle.report_text.proofs.ReportReaders.{rest_lines, AreRest, entries_read, report_at, report_reads, rest_plain, report_plain, few_report_lines}
+use Rattle.report_text.proofs.ReportReaders.{rest_lines, entries_read, report_at, report_reads, rest_plain, report_plain, few_report_lines}
 
 -- ---- a report's text is that of its lines
 

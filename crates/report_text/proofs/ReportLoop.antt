@@ -1,5 +1,5 @@
 -- Reading entries one after the other, as a loop does.
-use Rattle.std.proofs.Common.{◌≡◌, ℕ, zero, suc, ◌-◌, ◌+◌, ◌≤◌, ◌<◌, List, [], ◌∷◌, length, Ok, Err, refl, sym, ap, ◌∙◌, arith}
+use Rattle.std.proofs.Common.{◌≡◌, ℕ, suc, ◌-◌, ◌+◌, ◌<◌, List, ◌∷◌, length, Ok, Err, refl, sym, ap, ◌∙◌, arith}
 use Rattle.texts.specs.Grammar.{Reading, ◌>>=◌, first_by}
 use Rattle.texts.specs.Gives.{Fails}
 use Rattle.texts.specs.declared.stops.Stop.{Stop}
@@ -8,7 +8,7 @@ use Rattle.cert_text.specs.declared.forms.Form.{Form}
 use Rattle.plan_entries.specs.declared.entries.Entry.{Entry}
 use Rattle.report_text.specs.Lines.{entry_behind}
 use Rattle.report_text.specs.NextWords.{done_of, next_of}
-use Rattle.report_text.specs.ReportLines.{entries_behind, entries_from, counted}
+use Rattle.report_text.specs.ReportLines.{entries_from, counted}
 use Rattle.report_text.specs.declared.nexts.Next.TheVariants.{Done, More}
 
 -- how many there are with so many before

@@ -1,5 +1,5 @@
 -- How long lines and texts are.
-use Rattle.std.proofs.Common.{◌≡◌, ℕ, zero, suc, ◌+◌, ◌*◌, ◌≤◌, ◌<◌, ◌^◌, List, [], ◌∷◌, ◌++◌, length, map, take, drop, refl, sym, ap, ◌∙◌, arith, true, Bool, leb, ltb, eqb}
+use Rattle.std.proofs.Common.{◌≡◌, ℕ, zero, suc, ◌+◌, ◌*◌, ◌≤◌, ◌<◌, List, [], ◌∷◌, ◌++◌, length, map, take, drop, refl, sym, ap, ◌∙◌, arith, true, Bool, leb, ltb, eqb}
 use Rattle.std.specs.Prelude.{decimal, codes, ◌&&◌}
 use Rattle.std.specs.List.{list_all, flat_map, AllByRecursion}
 use Rattle.std.proofs.lemmas.Bool.{leb-true, ltb-true, eqb-true}
@@ -8,7 +8,6 @@ use Rattle.std.proofs.lemmas.List.Concat.{flat_map-cons, flat_map-append}
 use Rattle.std.proofs.lemmas.List.Folds.{list_all-append}
 use Rattle.std.proofs.lemmas.List.Elements.{recursion_from_All}
 use Rattle.std.proofs.lemmas.Fmt.{length-decimal-le}
-use Rattle.std.proofs.lemmas.Nat.{mul-le}
 use Rattle.texts.specs.Lines.{ended, spaced, text_of}
 use Rattle.texts.proofs.Parsers.{both_true}
 use Rattle.weightings.specs.declared.kinds.Weighting.{Weighting}
@@ -18,7 +17,7 @@ use Rattle.weightings.specs.declared.certs.StripCut.{StripCut}
 use Rattle.weightings.specs.declared.certs.StripCut.TheVariants as cuts
 use Rattle.weightings.specs.declared.certs.Cert.{Cert}
 use Rattle.weightings.specs.declared.certs.Cert.TheVariants as certs
-use Rattle.cert_text.specs.Ranges.{are_sides, are_weights, is_weighting, is_tree, is_cut, are_cuts, InRange}
+use Rattle.cert_text.specs.Ranges.{are_sides, are_weights, is_weighting, is_tree, is_cut, InRange}
 use Rattle.cert_text.specs.Text.{weighting_words, weighting_lines, rows_of, row_words, row_lines, mark_byte, tree_line, cut_words, cut_lines, cert_lines, cert_text}
 use Rattle.cert_text.specs.declared.forms.Form.TheVariants.{Two}
 use Rattle.order_reader.specs.declared.fields.Field.{Field}
@@ -36,7 +35,7 @@ use Rattle.plan_entries.specs.declared.entries.Status.TheVariants.{Optimal, Stil
 use Rattle.plan_entries.specs.declared.entries.Plan.{Plan}
 use Rattle.plan_entries.specs.declared.entries.Entry.{Entry}
 use Rattle.plan_entries.specs.declared.entries.Entry.TheVariants.{Planned, Refused}
-use Rattle.report_text.specs.LineTexts.{number_words, id_line, fault_words, fault_line, order_words, reduced_words, count_words, bound_words, status_line, end_line}
+use Rattle.report_text.specs.LineTexts.{number_words, id_line, fault_line, order_words, reduced_words, count_words, bound_words, status_line, end_line}
 use Rattle.report_text.specs.Text.{front_lines, entry_lines, entry_text}
 use Rattle.report_text.specs.Reports.{entries_text, head_text, done_text, report_text, AreNumberedFrom, AreReported}
 use Rattle.report_text.specs.Lengths.{IsTableOrTree, short_length, HasShortCert, HaveShortCerts}

@@ -1,9 +1,9 @@
-use Rattle.std.proofs.Common.{◌≡◌, ◌∙◌, ◌+◌, [], List, ℕ, length, sym, ap, subst, arith, eq-eqb, eqb, Ok, true, false}
+use Rattle.std.proofs.Common.{◌≡◌, ◌∙◌, [], List, ℕ, length, sym, ap, subst, arith, eq-eqb, Ok}
 use Rattle.std.proofs.lemmas.Bool.{eqb-true, false≢true}
 use Rattle.std.proofs.lemmas.List.{nil_from_length}
 use Rattle.texts.specs.Lines.{whole_lines, unfinished}
 use Rattle.report_text.specs.ReportLines.{entries_counted}
-use Rattle.report_text.proofs.ReportBytes.{entries_fault, report_stopped, faults_at, no_report_fault, Counted, was_counted, all_ahead, report_found, report_only, more_behind, few_before, nothing_behind}
+use Rattle.report_text.proofs.ReportBytes.{entries_fault, report_stopped, faults_at, no_report_fault, was_counted, all_ahead, report_found, report_only, more_behind, few_before, nothing_behind}
 use Rattle.report_text.proofs.reports.check_entries.Goals as goal
 
 pub new-requires : goal.new-requires

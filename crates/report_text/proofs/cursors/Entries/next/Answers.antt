@@ -1,4 +1,4 @@
-use Rattle.std.proofs.Common.{◌≡◌, ◌<◌, ◌∷◌, ◌+◌, ◌-◌, ◌∙◌, sym, ap, subst, refl, arith, ℕ, List}
+use Rattle.std.proofs.Common.{◌≡◌, ◌∷◌, ◌+◌, ◌-◌, ◌∙◌, sym, ap, subst, arith, List}
 use Rattle.plan_entries.specs.declared.entries.Entry.{Entry}
 use Rattle.report_text.specs.Cursors.{entries_in, IsRest}
 use Rattle.report_text.specs.Reports.{Report}
