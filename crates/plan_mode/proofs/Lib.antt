@@ -1,0 +1,3 @@
+pub mod FirstLayer
+pub mod EntryFacts
+pub mod Acceptance

@@ -1,0 +1,179 @@
+// Reading the rows, and writing a report piece by piece.
+ghost use Rattle.std.specs.Prelude.{◌≡◌, ◌≤◌, ◌⊎◌, ◌+◌, ◌++◌, ◌||◌, false, true, List, ℕ, length, IfOk, IfErr, OnOk, OnErr, IsErrOf};
+ghost use Rattle.std.specs.Io.KnownBytes.{Appends};
+ghost use Rattle.plan_io.specs.Causes.{Rose};
+ghost use Rattle.plan_io.specs.Bytes.{TookAtMost, TookCount};
+ghost use Rattle.run_parts.specs.Codes.{WritesNothing, IsDoneOrMemory};
+ghost use Rattle.run_parts.specs.Written.{AppendsPart};
+ghost use Rattle.plan_entries.specs.Entries.{is_refused, any_refused};
+ghost use Rattle.plan_entries.specs.declared.entries.Entry.{Entry};
+ghost use Rattle.plan_mode.specs.Entries.{IsEntryOf, AreEntriesOf, AreFirstEntriesOf};
+ghost use Rattle.plan_mode.specs.Accepted.{AreAccepted};
+ghost use Rattle.plan_mode.specs.Pieces.{IsPieceOf, ArePieces, joined, IsTextOf, IsBegunText, IsBrokenText};
+ghost use Rattle.plan_mode.specs.Runs.{most_bytes, HasRows, HasNoHeader, HasTooManyRows, Reported, Begun, BrokeOff, IsOrdersFile, IsRowsCode};
+
+use crate::entries::plan_row;
+use crate::pieces::{done, head, piece};
+use order_reader::{ReadStop, Row, read_orders};
+use plan_io::{Sink, Source};
+use run_parts::{Code, WriteStop, read_input, send};
+use std::alloc::Global;
+
+// How many bytes an orders file may have.
+const MOST_BYTES: usize = 262144;
+
+/// Reads an orders file, and writes the report of its rows: the first line, then one whole piece after another, then the
+/// last line. Where `draw` is set each planned entry is followed by its drawing.
+pub fn plan<S: Source, K: Sink>(alloc: Global, draw: bool, source: &mut S, sink: &mut K) -> Code
+    ensures done { result ≡ Code.Done
+        → Reported draw (S.left source.old) (S.left source.new) (K.written sink.old) (K.written sink.new) false }
+    ensures findings { result ≡ Code.Findings
+        → Reported draw (S.left source.old) (S.left source.new) (K.written sink.old) (K.written sink.new) true }
+    ensures too_long { result ≡ Code.TooLong
+        → TookCount (S.left source.old) (S.left source.new) (most_bytes + 1) }
+    ensures no_header { result ≡ Code.NoHeader
+        → HasNoHeader (S.left source.old) (S.left source.new) }
+    ensures too_many { result ≡ Code.TooManyRows
+        → HasTooManyRows (S.left source.old) (S.left source.new) }
+    ensures read_fault { result ≡ Code.ReadFault → Rose (S.faults source.old) (S.faults source.new) }
+    ensures read_part { result ≡ Code.ReadFault
+        → TookAtMost (S.left source.old) (S.left source.new) most_bytes }
+    ensures write_fault { result ≡ Code.WriteFault → Rose (K.faults sink.old) (K.faults sink.new) }
+    ensures write_part { result ≡ Code.WriteFault
+        → Begun draw (S.left source.old) (S.left source.new) (K.written sink.old) (K.written sink.new) }
+    ensures memory { result ≡ Code.Memory → (sink.new ≡ sink.old)
+        ⊎ BrokeOff draw (S.left source.old) (S.left source.new) (K.written sink.old) (K.written sink.new) }
+    ensures other { (result ≡ Code.Usage) ⊎ (result ≡ Code.BadReport) → ⊥ }
+    ensures nothing { WritesNothing result → sink.new ≡ sink.old }
+    ensures complete { IsOrdersFile (S.left source.old)
+        → ¬ Rose (S.faults source.old) (S.faults source.new) → ¬ Rose (K.faults sink.old) (K.faults sink.new)
+        → IsDoneOrMemory result }
+    ensures source_later { S.faults source.old ≤ S.faults source.new }
+    ensures sink_later { K.faults sink.old ≤ K.faults sink.new }
+{
+    let rows = match read_rows(alloc, source) {
+        Ok(rows) => rows,
+        Err(code) => return code,
+    };
+    match write_report(alloc, draw, &rows, sink) {
+        Ok(true) => Code::Findings,
+        Ok(false) => Code::Done,
+        Err(WriteStop::Fault) => Code::WriteFault,
+        Err(WriteStop::Memory) => Code::Memory,
+    }
+}
+
+// The rows of an orders file that is read to its end, or the code of the run where it has none.
+fn read_rows<S: Source>(alloc: Global, source: &mut S) -> Result<Vec<Row>, Code>
+    ensures rows { IfOk result (λ rows. HasRows (S.left source.old) (S.left source.new) rows.items) }
+    ensures too_long { IsErrOf result Code.TooLong
+        → TookCount (S.left source.old) (S.left source.new) (most_bytes + 1) }
+    ensures no_header { IsErrOf result Code.NoHeader
+        → HasNoHeader (S.left source.old) (S.left source.new) }
+    ensures too_many { IsErrOf result Code.TooManyRows
+        → HasTooManyRows (S.left source.old) (S.left source.new) }
+    ensures read_fault { IsErrOf result Code.ReadFault → Rose (S.faults source.old) (S.faults source.new) }
+    ensures read_part { IsErrOf result Code.ReadFault
+        → TookAtMost (S.left source.old) (S.left source.new) most_bytes }
+    ensures other { IfErr result (λ code. IsRowsCode code) }
+    ensures later { S.faults source.old ≤ S.faults source.new }
+{
+    let bytes = read_input(alloc, source, MOST_BYTES)?;
+    match read_orders(alloc, &bytes) {
+        Ok(rows) => Ok(rows),
+        Err(ReadStop::NoHeader) => Err(Code::NoHeader),
+        Err(ReadStop::TooManyRows) => Err(Code::TooManyRows),
+        Err(ReadStop::Memory) => Err(Code::Memory),
+    }
+}
+
+// Writes the report of rows, and answers whether one was refused.
+fn write_report<K: Sink>(
+    alloc: Global,
+    draw: bool,
+    rows: &[Row],
+    sink: &mut K,
+) -> Result<bool, WriteStop>
+    requires { length rows.now ≤ 256 }
+    ensures ok { IfOk result (λ found. (es : List Entry) × (text : List ℕ) × AreEntriesOf rows.now es × AreAccepted es × (any_refused es ≡ found)
+        × IsTextOf draw es text × Appends (K.written sink.old) (K.written sink.new) text) }
+    ensures part { IsErrOf result WriteStop.Fault → (es : List Entry) × (text : List ℕ) × AreFirstEntriesOf rows.now es
+        × IsBegunText draw (length rows.now) es text × AppendsPart (K.written sink.old) (K.written sink.new) text }
+    ensures rose { IsErrOf result WriteStop.Fault → Rose (K.faults sink.old) (K.faults sink.new) }
+    ensures memory { IsErrOf result WriteStop.Memory → (sink.new ≡ sink.old)
+        ⊎ ((es : List Entry) × (text : List ℕ) × AreFirstEntriesOf rows.now es
+        × IsBrokenText draw es text × Appends (K.written sink.old) (K.written sink.new) text) }
+    ensures later { K.faults sink.old ≤ K.faults sink.new }
+{
+    let Ok(first) = head(alloc, draw) else {
+        return Err(WriteStop::Memory);
+    };
+    send(sink, &first)?;
+    let found = write_entries(alloc, draw, rows, sink)?;
+    let Ok(last) = done(alloc, rows.len() as u32) else {
+        return Err(WriteStop::Memory);
+    };
+    send(sink, &last)?;
+    Ok(found)
+}
+
+// Writes the pieces of rows, each as soon as it stands whole, and answers whether a row was refused.
+fn write_entries<K: Sink>(
+    alloc: Global,
+    draw: bool,
+    rows: &[Row],
+    sink: &mut K,
+) -> Result<bool, WriteStop>
+    requires { length rows.now ≤ 256 }
+    ensures ok { IfOk result (λ found. (es : List Entry) × (ts : List (List ℕ)) × AreEntriesOf rows.now es × (any_refused es ≡ found)
+        × (length es ≡ length rows.now) × ArePieces draw es ts × Appends (K.written sink.old) (K.written sink.new) (joined ts)) }
+    ensures part { IsErrOf result WriteStop.Fault → (es : List Entry) × (ts : List (List ℕ)) × AreFirstEntriesOf rows.now es
+        × ArePieces draw es ts × AppendsPart (K.written sink.old) (K.written sink.new) (joined ts) }
+    ensures rose { IsErrOf result WriteStop.Fault → Rose (K.faults sink.old) (K.faults sink.new) }
+    ensures memory { IsErrOf result WriteStop.Memory → (es : List Entry) × (ts : List (List ℕ)) × AreFirstEntriesOf rows.now es
+        × ArePieces draw es ts × Appends (K.written sink.old) (K.written sink.new) (joined ts) }
+    ensures later { K.faults sink.old ≤ K.faults sink.new }
+{
+    let mut found = false;
+    let mut number = 1;
+    for row in rows {
+        let refused = write_entry(alloc, draw, number, row, sink)?;
+        found = either(found, refused);
+        number += 1;
+    }
+    Ok(found)
+}
+
+fn either(a: bool, b: bool) -> bool
+    ensures { result ≡ (a || b) }
+{
+    a || b
+}
+
+// Writes the piece of a row, and answers whether the row was refused.
+fn write_entry<K: Sink>(
+    alloc: Global,
+    draw: bool,
+    number: u32,
+    row: &Row,
+    sink: &mut K,
+) -> Result<bool, WriteStop>
+    requires first { 1 ≤ number }
+    requires last { number ≤ 256 }
+    ensures ok { IfOk result (λ refused. (e : Entry) × (t : List ℕ) × IsEntryOf number row.now e × (is_refused e ≡ refused)
+        × IsPieceOf draw e t × Appends (K.written sink.old) (K.written sink.new) t) }
+    ensures part { IsErrOf result WriteStop.Fault → (e : Entry) × (t : List ℕ) × IsEntryOf number row.now e
+        × IsPieceOf draw e t × AppendsPart (K.written sink.old) (K.written sink.new) t }
+    ensures rose { IsErrOf result WriteStop.Fault → Rose (K.faults sink.old) (K.faults sink.new) }
+    ensures memory { IsErrOf result WriteStop.Memory → sink.new ≡ sink.old }
+    ensures later { K.faults sink.old ≤ K.faults sink.new }
+{
+    let Ok(entry) = plan_row(alloc, number, row) else {
+        return Err(WriteStop::Memory);
+    };
+    let Ok(text) = piece(alloc, draw, &entry) else {
+        return Err(WriteStop::Memory);
+    };
+    send(sink, &text)?;
+    Ok(entry.is_refused())
+}
