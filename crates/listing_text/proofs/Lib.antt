@@ -1,0 +1,9 @@
+pub mod OneWord
+pub mod CaseLines
+pub mod LayerReaders
+pub mod RuleLines
+pub mod AnswerReaders
+pub mod Loops
+pub mod NumberLoop
+pub mod Pieces
+pub mod Lengths

@@ -1,0 +1,10 @@
+pub mod Sides
+pub mod LineTexts
+pub mod Text
+pub mod Words
+pub mod HeadLines
+pub mod Lines
+pub mod Answers
+pub mod Reports
+pub mod NextWords
+pub mod ReportLines
