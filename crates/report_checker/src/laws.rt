@@ -1,0 +1,11 @@
+ghost use Rattle.report_checker.specs.Laws.{SoundPlansAreAccepted, EntriesHaveOneVerdict};
+
+/// Yes is the one right verdict of a sound plan.
+pub fn sound_plans_are_accepted()
+    ensures { SoundPlansAreAccepted }
+{}
+
+/// An entry has no two right verdicts.
+pub fn entries_have_one_verdict()
+    ensures { EntriesHaveOneVerdict }
+{}
