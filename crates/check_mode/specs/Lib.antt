@@ -1,0 +1,5 @@
+pub mod Reading
+pub mod Verdicts
+pub mod Checks
+pub mod Upgrades
+pub mod Laws
