@@ -216,7 +216,8 @@ fn write_lines<K: Sink>(
         → AppendsPart (K.written sink.old) (K.written sink.new) (verdict_lines group.now verdicts.now) }
     ensures rose { IsErrOf result WriteStop.Fault → Rose (K.faults sink.old) (K.faults sink.new) }
     ensures memory { IsErrOf result WriteStop.Memory
-        → (j : ℕ) × Appends (K.written sink.old) (K.written sink.new) (verdict_lines group.now (take j verdicts.now)) }
+        → (j : ℕ) × (j ≤ length verdicts.now)
+        × Appends (K.written sink.old) (K.written sink.new) (verdict_lines group.now (take j verdicts.now)) }
     ensures later { K.faults sink.old ≤ K.faults sink.new }
 {
     let mut found = false;
