@@ -1,8 +1,7 @@
 -- An allowed number and an answer on the stack are read exactly, line by line.
-use Rattle.std.proofs.Common.{◌≡◌, ℕ, zero, suc, ◌≤◌, List, [], ◌∷◌, ◌++◌, length, Ok, refl, sym, ap, subst, ◌∙◌, arith, Bool, true, false, eqb, leb, eq-eqb}
-use Rattle.std.specs.Prelude.{◌&&◌, map, codes}
-use Rattle.std.specs.List.{list_all, AllByRecursion}
-use Rattle.std.specs.Cmp.Lexicographic.{pointwise}
+use Rattle.std.proofs.Common.{◌≡◌, ℕ, ◌≤◌, List, [], ◌∷◌, ◌++◌, length, Ok, refl, sym, ap, subst, ◌∙◌, arith, Bool, true, leb, eq-eqb}
+use Rattle.std.specs.Prelude.{◌&&◌}
+use Rattle.std.specs.List.{AllByRecursion}
 use Rattle.std.proofs.lemmas.Bool.{leb-true, le-leb, eqb-true}
 use Rattle.std.proofs.lemmas.List.{append-nil, length-map}
 use Rattle.texts.specs.Lines.{spaced}
@@ -17,14 +16,14 @@ use Rattle.stack_builder.specs.Orders.{rules_of}
 use Rattle.stack_builder.specs.declared.lists.UnmetRule.{UnmetRule}
 use Rattle.stack_builder.specs.declared.lists.StackAnswer.{StackAnswer}
 use Rattle.stack_builder.specs.declared.lists.StackAnswer.TheVariants.{Stack, Unmet}
-use Rattle.plan_entries.specs.Ranges.{is_within, same_rule, same_rules, rules_told, stack_in_range}
-use Rattle.listing_text.specs.Text.{rule_words, rule_lines, stack_words, stack_lines, allowed_words, answer_lines}
+use Rattle.plan_entries.specs.Ranges.{same_rule, same_rules, rules_told, stack_in_range}
+use Rattle.listing_text.specs.Text.{rule_words, rule_lines, stack_lines, allowed_words, answer_lines}
 use Rattle.listing_text.specs.Ranges.{IsAnswerInRange}
 use Rattle.listing_text.specs.Words.{allowed_of, reply_of, rule_of}
 use Rattle.listing_text.specs.Lines.{unmet_from, stack_behind, stack_from, answer_at}
 use Rattle.listing_text.specs.declared.stack_words.Reply.{Reply}
 use Rattle.listing_text.specs.declared.stack_words.Reply.TheVariants as replies
-use Rattle.listing_text.proofs.LayerReaders.{by_line, all_both}
+use Rattle.listing_text.proofs.LayerReaders.{by_line}
 use Rattle.listing_text.proofs.RuleLines.{allowed_reads, allowed_solid, IsOfRule, rule_reads, rule_solid, GoodStack, reply_text, GoodReply, reply_reads, reply_plain}
 
 -- ---- the same rules

@@ -1,11 +1,11 @@
 -- The lines of a case, of a layer's number and move, and of the number of layers are read exactly.
-use Rattle.std.proofs.Common.{◌≡◌, ℕ, ◌≤◌, List, [], ◌∷◌, Some, None, refl, sym, ap, subst, ◌∙◌, arith, true, leb}
-use Rattle.std.specs.Prelude.{decimal, codes, ◌&&◌}
+use Rattle.std.proofs.Common.{◌≡◌, ℕ, ◌≤◌, List, [], ◌∷◌, Some, refl, sym, ap, subst, ◌∙◌, arith, true, leb}
+use Rattle.std.specs.Prelude.{decimal, codes}
 use Rattle.std.specs.List.{AllByRecursion}
 use Rattle.std.proofs.lemmas.Bool.{leb-true, le-leb}
 use Rattle.plan_io.specs.Numbers.{number_of}
 use Rattle.texts.specs.Lines.{spaced, words_of}
-use Rattle.texts.specs.Words.{◌>>=◌, word_by, behind, number_up_to, this_number}
+use Rattle.texts.specs.Words.{◌>>=◌, word_by, number_up_to, this_number}
 use Rattle.texts.proofs.Parsers.{Parses, both_true, bind_some, guard_some, number_back, number_is, parses_word, parses_behind, parses_none, parses_then, parses_as, number_then, parses_this, IsWord, few_wide, words_spaced, ReadsLine, reads_line}
 use Rattle.plan_geometry.specs.declared.spots.Way.{Way}
 use Rattle.plan_geometry.specs.declared.spots.Spot.{Spot}

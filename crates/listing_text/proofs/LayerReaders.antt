@@ -1,6 +1,5 @@
 -- Listed layers are read exactly, line by line.
 use Rattle.std.proofs.Common.{◌≡◌, ℕ, zero, suc, ◌≤◌, ◌+◌, List, [], ◌∷◌, ◌++◌, length, Option, Ok, refl, sym, ap, subst, ◌∙◌, arith, true, eqb, eq-eqb}
-use Rattle.std.specs.Prelude.{◌&&◌, map, decimal}
 use Rattle.std.specs.List.{list_all, AllByRecursion}
 use Rattle.std.proofs.lemmas.Bool.{eqb-true}
 use Rattle.std.proofs.lemmas.List.{append-nil}
@@ -14,7 +13,7 @@ use Rattle.plan_geometry.specs.declared.spots.Spot.{Spot}
 use Rattle.layer_symmetry.specs.declared.symmetries.Move.{Move}
 use Rattle.layer_symmetry.specs.declared.symmetries.Move.TheVariants.{Same}
 use Rattle.plan_entries.specs.declared.listed.Listed.{Listed}
-use Rattle.plan_entries.specs.Ranges.{is_within, is_place, listed_in_range, layers_in_range}
+use Rattle.plan_entries.specs.Ranges.{is_within, is_place, listed_in_range}
 use Rattle.listing_text.specs.Text.{case_words, case_lines, turn_words, layer_lines, listed_lines, layer_count_words, layers_lines}
 use Rattle.listing_text.specs.Ranges.{AreLayersInRange}
 use Rattle.listing_text.specs.Words.{case_of, turn_of, layer_count_of}

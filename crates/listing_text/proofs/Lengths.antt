@@ -1,5 +1,5 @@
 -- How long the text of layers and of an answer can be.
-use Rattle.std.proofs.Common.{◌≡◌, ℕ, suc, ◌+◌, ◌*◌, ◌≤◌, ◌<◌, ◌^◌, List, [], ◌∷◌, ◌++◌, length, refl, sym, ap, ◌∙◌, arith, true, Bool, false, cond, leb, ltb, eqb}
+use Rattle.std.proofs.Common.{◌≡◌, ℕ, suc, ◌+◌, ◌*◌, ◌≤◌, List, [], ◌∷◌, ◌++◌, length, refl, ap, ◌∙◌, arith, true, Bool, false, cond, leb, ltb, eqb}
 use Rattle.std.specs.Prelude.{decimal, map, codes}
 use Rattle.std.specs.List.{list_all, flat_map}
 use Rattle.std.proofs.lemmas.Bool.{leb-true}
@@ -24,7 +24,7 @@ use Rattle.stack_builder.specs.declared.lists.UnmetRule.{UnmetRule}
 use Rattle.stack_builder.specs.declared.lists.StackAnswer.{StackAnswer}
 use Rattle.stack_builder.specs.declared.lists.StackAnswer.TheVariants.{Stack, Unmet}
 use Rattle.plan_entries.specs.declared.listed.Listed.{Listed}
-use Rattle.plan_entries.specs.Ranges.{is_within, is_place, listed_in_range, rules_told}
+use Rattle.plan_entries.specs.Ranges.{is_within, is_place, listed_in_range}
 use Rattle.listing_text.specs.Text.{way_word, case_words, case_lines, turn_words, layer_lines, listed_lines, layer_count_words, layers_lines, layers_text, rule_name, alone_word, rule_words, rule_lines, stack_words, stack_lines, allowed_words, answer_lines, answer_text}
 use Rattle.listing_text.specs.Ranges.{AreLayersInRange, IsAnswerInRange}
 use Rattle.listing_text.proofs.CaseLines.{GoodCase, small_case, within_le}

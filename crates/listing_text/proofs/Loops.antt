@@ -1,5 +1,5 @@
 -- Reading one thing after the other, as a loop does.
-use Rattle.std.proofs.Common.{◌≡◌, ℕ, suc, ◌-◌, ◌+◌, ◌≤◌, ◌<◌, List, [], ◌∷◌, ◌++◌, length, get_or, drop, Option, Some, None, Ok, Err, refl, sym, ap, ◌∙◌, append_assoc, arith, add-one}
+use Rattle.std.proofs.Common.{◌≡◌, ℕ, suc, ◌-◌, ◌+◌, ◌≤◌, ◌<◌, List, [], ◌∷◌, ◌++◌, length, get_or, drop, Ok, Err, refl, sym, ap, ◌∙◌, append_assoc, arith, add-one}
 use Rattle.std.proofs.Math.Seq.{drop-cons}
 use Rattle.std.proofs.lemmas.List.{append-nil, drop_all}
 use Rattle.texts.specs.Grammar.{Reading, ◌>>=◌, first_by}
@@ -10,7 +10,7 @@ use Rattle.plan_geometry.specs.declared.spots.Spot.{Spot}
 use Rattle.contact_rules.specs.declared.rules.Rule.{Rule}
 use Rattle.stack_builder.specs.declared.lists.UnmetRule.{UnmetRule}
 use Rattle.plan_entries.specs.declared.listed.Listed.{Listed}
-use Rattle.listing_text.specs.Words.{case_of, rule_of, number_within, numbers_within}
+use Rattle.listing_text.specs.Words.{case_of, rule_of}
 use Rattle.listing_text.specs.Lines.{cases_from, layer_from, listed_from, unmet_from}
 
 -- what was read before, and what is still read

@@ -1,9 +1,8 @@
 -- The lines of an allowed number, of a stack and of unmet rules are read exactly.
-use Rattle.std.proofs.Common.{◌≡◌, ℕ, ◌≤◌, List, [], ◌∷◌, ◌++◌, length, Option, Some, None, refl, sym, ap, subst, ◌∙◌, arith, Bool, true, false, cond, leb, inl, inr}
+use Rattle.std.proofs.Common.{◌≡◌, ℕ, ◌≤◌, List, [], ◌∷◌, length, Some, None, refl, sym, ap, subst, ◌∙◌, arith, Bool, true, cond, leb, inl, inr}
 use Rattle.std.specs.Prelude.{decimal, codes, map, option_map, ◌&&◌}
 use Rattle.std.specs.Str.{bytes_eq}
 use Rattle.std.specs.List.{list_all, AllByRecursion}
-use Rattle.std.proofs.lemmas.Bool.{leb-true, le-leb}
 use Rattle.std.proofs.lemmas.Slice.Eq.{bytes_eq-Decides}
 use Rattle.texts.specs.Lines.{spaced, words_of}
 use Rattle.texts.specs.Words.{◌>>=◌, word_by, behind, number_up_to}
@@ -18,7 +17,7 @@ use Rattle.listing_text.specs.Words.{allowed_at, allowed_of, number_within, numb
 use Rattle.listing_text.specs.declared.stack_words.Reply.{Reply}
 use Rattle.listing_text.specs.declared.stack_words.Reply.TheVariants as replies
 use Rattle.listing_text.proofs.OneWord.{Any, pick, alone_parses, alone_solid}
-use Rattle.listing_text.proofs.CaseLines.{IsWithin, within_le, within_back, within_only}
+use Rattle.listing_text.proofs.CaseLines.{within_le, within_back, within_only}
 
 -- ---- the allowed number
 

@@ -1,5 +1,5 @@
 -- Reading the lines of layers and of an answer on the stack, each by itself.
-use Rattle.std.specs.Prelude.{ℕ, ◌≡◌, List, [], ◌∷◌, length, codes, Option, Some, None, option_map, find, Bool, true, false, nat_le, if◌then◌else◌}
+use Rattle.std.specs.Prelude.{ℕ, List, [], ◌∷◌, length, codes, Option, Some, None, option_map, find, Bool, true, false, nat_le, if◌then◌else◌}
 use Rattle.std.specs.Str.{bytes_eq}
 use Rattle.plan_io.specs.Numbers.{number_of}
 use Rattle.texts.specs.Lines.{words_of}
@@ -94,9 +94,9 @@ stack_of variants line = do
 -- the line of a stack, or the line before the unmet rules, where rules are asked for
 unfoldable pub reply_of : ℕ → List Rule → List ℕ → Option Reply
 reply_of variants rules line =
-  if bytes_eq line (codes "unmet")
-  then (if nat_le 1 (length rules) then Some replies.Unmet else None)
-  else option_map (λ numbers. replies.Stack numbers) (stack_of variants line)
+    if bytes_eq line (codes "unmet")
+    then (if nat_le 1 (length rules) then Some replies.Unmet else None)
+    else option_map (λ numbers. replies.Stack numbers) (stack_of variants line)
 
 abbrev pub alone_of : List ℕ → Option Bool
 alone_of w = if bytes_eq w (codes "alone") then Some true else if bytes_eq w (codes "together") then Some false else None

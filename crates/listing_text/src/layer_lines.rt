@@ -64,7 +64,12 @@ fn layer_at(alloc: Global, count: u32, number: u32, bytes: &[u8]) -> Result<(Lis
 }
 
 // So many layers, numbered from 1.
-fn listed_at(alloc: Global, count: u32, total: u32, bytes: &[u8]) -> Result<(Vec<Listed>, &[u8]), Stop>
+fn listed_at(
+    alloc: Global,
+    count: u32,
+    total: u32,
+    bytes: &[u8],
+) -> Result<(Vec<Listed>, &[u8]), Stop>
     ensures read { Gives (λ x. (x.0.items, whole_lines x.1.now)) result (listed_from count total 1 (whole_lines bytes.now)) }
     ensures rest { IfOk result (λ x. unfinished x.1.now ≡ unfinished bytes.now) }
 {

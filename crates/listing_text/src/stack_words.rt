@@ -54,11 +54,7 @@ pub(crate) fn allowed_line(line: &[u8]) -> Option<u32>
 }
 
 // The numbers that all words are, each that of a variant.
-fn numbers_within(
-    alloc: Global,
-    words: Option<&[u8]>,
-    variants: u32,
-) -> Result<Vec<u32>, LineStop>
+fn numbers_within(alloc: Global, words: Option<&[u8]>, variants: u32) -> Result<Vec<u32>, LineStop>
     ensures { GivesLine (λ v. v.items) result (numbers_within_most variants (words_left words.entry)) }
 {
     let mut numbers = Vec::new(alloc);

@@ -8,7 +8,8 @@ use std::alloc::Global;
 use std::test::Fail;
 use texts::Stop;
 
-const LAYERS: &[u8] = b"layers 2\nlayer 1 same\n0 0 L\n3 0 S\n0 2 S\n2 3 L\nlayer 2 mirror-x\n0 0 S\n2 0 L\n3 2 S\n0 3 L\n";
+const LAYERS: &[u8] =
+    b"layers 2\nlayer 1 same\n0 0 L\n3 0 S\n0 2 S\n2 3 L\nlayer 2 mirror-x\n0 0 S\n2 0 L\n3 2 S\n0 3 L\n";
 
 const UNMET: &[u8] = b"allowed 10000\nunmet\nrule contact together\nrule cut alone\n";
 
@@ -70,7 +71,10 @@ fn layers_read(rt: HostRuntime) -> Result<(), Fail> {
     assert_eq!(rt; rest.len(), 0);
     assert_eq!(rt; layers.len(), 2);
     assert!(rt; layers[1].turn == Move::MirrorX);
-    assert!(rt; layers[1].spots.as_slice()[1] == spot(2, 0, Way::Lying));
+    let [_, second, ..] = layers[1].spots.as_slice() else {
+        return Err("cases".into());
+    };
+    assert!(rt; *second == spot(2, 0, Way::Lying));
     assert_eq!(rt; left_of(rt.alloc(), LAYERS, 3), 6);
     assert_eq!(rt; left_of(rt.alloc(), LAYERS, 5), 5);
     Ok(())
@@ -79,7 +83,10 @@ fn layers_read(rt: HostRuntime) -> Result<(), Fail> {
 #[test]
 fn layer_faults(rt: HostRuntime) {
     let alloc = rt.alloc();
-    assert_eq!(rt; left_of(alloc, b"layers 1\nlayer 1 same\n4000 0 L\nrest", 1), 1_000);
+    assert_eq!(rt;
+        left_of(alloc, b"layers 1\nlayer 1 same\n4000 0 L\nrest", 1),
+        1_000
+    );
     assert_eq!(rt; left_of(alloc, b"layers 1\nlayer 1 same\n4001 0 L\n", 1), 1);
     assert_eq!(rt; left_of(alloc, b"layers 1\nlayer 1 same\n01 0 L\n", 1), 1);
     assert_eq!(rt; left_of(alloc, b"layers 1\nlayer 1 same\n1 0 l\n", 1), 1);
@@ -115,7 +122,11 @@ fn stack_text(rt: HostRuntime) -> Result<(), Fail> {
     put_answer(&mut out, allowed, &stack)?;
     assert_eq!(rt; out.as_slice(), text);
     let mut out = Vec::new(rt.alloc());
-    put_answer(&mut out, 0, &StackAnswer::Stack(VariantNumbers::new(Vec::new(rt.alloc()))))?;
+    put_answer(
+        &mut out,
+        0,
+        &StackAnswer::Stack(VariantNumbers::new(Vec::new(rt.alloc()))),
+    )?;
     assert_eq!(rt; out.as_slice(), b"allowed 0\nstack\n".as_slice());
     Ok(())
 }
@@ -155,7 +166,17 @@ fn answer_faults(rt: HostRuntime) -> Result<(), Fail> {
     assert_eq!(rt; answer_left(alloc, b"allowed 1\nstack 3\n", &order), 1);
     assert_eq!(rt; answer_left(alloc, b"allowed 1\nstack 0\n", &order), 1);
     assert_eq!(rt; answer_left(alloc, b"allowed 1\nstack \n", &order), 1);
-    assert_eq!(rt; answer_left(alloc, b"allowed 1\nunmet\nrule support alone\n", &order), 1);
-    assert_eq!(rt; answer_left(alloc, b"allowed 1\nunmet\nrule contact alone\nend\n", &order), 1);
+    assert_eq!(rt;
+        answer_left(alloc, b"allowed 1\nunmet\nrule support alone\n", &order),
+        1
+    );
+    assert_eq!(rt;
+        answer_left(
+            alloc,
+            b"allowed 1\nunmet\nrule contact alone\nend\n",
+            &order
+        ),
+        1
+    );
     Ok(())
 }

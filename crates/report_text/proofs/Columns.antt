@@ -1,6 +1,6 @@
 -- Number columns by their names, and an instance by its numbers.
-use Rattle.std.proofs.Common.{◌≡◌, ℕ, Bool, true, false, List, [], ◌∷◌, Option, Some, None, refl, sym, subst, ap, ◌∙◌, cond, leb, inl, inr}
-use Rattle.std.specs.Prelude.{◌&&◌, ◌↔◌, IsSome, IfSome, find}
+use Rattle.std.proofs.Common.{◌≡◌, ℕ, Bool, true, false, List, [], ◌∷◌, Option, Some, None, refl, sym, ap, ◌∙◌, inl, inr}
+use Rattle.std.specs.Prelude.{◌↔◌, IsSome, IfSome, find}
 use Rattle.std.specs.Str.{bytes_eq}
 use Rattle.std.specs.List.{list_all}
 use Rattle.std.proofs.lemmas.Bool.{cases_Bool, le-leb, false≢true}
@@ -94,7 +94,6 @@ none_passes l_side w_side long short true sides never = absurd (never (sides ref
 none_passes l_side w_side long short false sides never = refl
 
 some_passes : (l_side w_side long short : ℕ) (passed : Bool) (sides : passed ≡ true → AreSides l_side w_side long short) (i : Inst) → passed ≡ true → HasNumbers l_side w_side long short i → Some i ≡ inst_by l_side w_side long short passed sides
-
 some_passes l_side w_side long short true sides i p h =
     ap (λ (j : Inst). Some j) (Inst-same i (record { l_side = l_side; w_side = w_side; long = long; short = short; sides = sides refl }) h.0 h.1 h.2 h.3)
 some_passes l_side w_side long short false sides i p h = absurd cc
@@ -113,7 +112,6 @@ inst_is l_side w_side long short None accepted numbers =
 inst_is l_side w_side long short (Some i) accepted numbers = sym (inst_back l_side w_side long short i numbers)
 
 inst_has : (l_side w_side long short : ℕ) (passed : Bool) (sides : passed ≡ true → AreSides l_side w_side long short) (i : Inst) → inst_by l_side w_side long short passed sides ≡ Some i → HasNumbers l_side w_side long short i
-
 inst_has l_side w_side long short true sides i e =
     let same = some_is (record { l_side = l_side; w_side = w_side; long = long; short = short; sides = sides refl }) i e in
     (ap (λ (j : Inst). j.l_side) (sym same), ap (λ (j : Inst). j.w_side) (sym same), ap (λ (j : Inst). j.long) (sym same), ap (λ (j : Inst). j.short) (sym same))

@@ -1,13 +1,14 @@
 -- What reading an entry says of the bytes.
-use Rattle.std.proofs.Common.{◌≡◌, ℕ, suc, ◌≤◌, ◌+◌, ◌*◌, List, [], ◌∷◌, ◌++◌, length, Ok, Err, refl, sym, ap, arith, Bool, true, false, leb, eqb, inl, inr}
+use Rattle.std.proofs.Common.{◌≡◌, ℕ, ◌≤◌, List, [], ◌∷◌, ◌++◌, length, Ok, Err, refl, sym, ◌∙◌, arith, true, false, leb, eqb, inl, inr}
 use Rattle.std.specs.Prelude.{◌&&◌, codes}
 use Rattle.std.specs.List.{list_all, AllByRecursion}
 use Rattle.std.proofs.lemmas.Bool.{cases_Bool, leb-true, eqb-true}
 use Rattle.std.proofs.lemmas.List.{length-append}
-use Rattle.texts.specs.Lines.{spaced, text_of, whole_lines, unfinished}
+use Rattle.texts.specs.Lines.{spaced, whole_lines, unfinished}
 use Rattle.texts.proofs.LineEnds.{IsPlain}
 use Rattle.texts.proofs.Parsers.{both_true, plain_spaced}
-use Rattle.texts.proofs.Bytes.{Got, got, same_value, no_fault, Stopped, stopped}
+use Rattle.texts.specs.Spelling.{HasOneSpelling}
+use Rattle.texts.proofs.Bytes.{Got, got, same_value, no_fault, Stopped, stopped, has_one_spelling}
 use Rattle.cert_text.proofs.CertReaders.{cert_plain, few_lines as few_cert_lines}
 use Rattle.cert_text.specs.Text.{cert_lines}
 use Rattle.cert_text.specs.declared.forms.Form.{Form}
@@ -21,7 +22,6 @@ use Rattle.listing_text.proofs.Lengths.{lines_within, layers_short, answer_short
 use Rattle.plan_entries.specs.Ranges.{most_entries, most_cases, IsInRange}
 use Rattle.plan_entries.specs.declared.entries.Status.{Status}
 use Rattle.plan_entries.specs.declared.entries.Status.TheVariants.{Optimal, StillOpen}
-use Rattle.plan_entries.specs.declared.entries.Plan.{Plan}
 use Rattle.plan_entries.specs.declared.entries.Entry.{Entry}
 use Rattle.plan_entries.specs.declared.entries.Entry.TheVariants.{Planned, Refused}
 use Rattle.report_text.specs.LineTexts.{number_words, id_line, order_words, reduced_words, count_words, bound_words, status_line, end_line}
@@ -30,7 +30,7 @@ use Rattle.report_text.specs.Lines.{entry_at}
 use Rattle.report_text.proofs.EntryWords.{IsWithin, within_is, named_solid, reduced_solid}
 use Rattle.report_text.proofs.OrderWords.{has_order, order_solid}
 use Rattle.report_text.proofs.FaultWords.{fault_plain}
-use Rattle.report_text.proofs.EntryReaders.{few_cases, few_entries, PlanParts, plan_parts, answer_good, number_good, entry_reads}
+use Rattle.report_text.proofs.EntryReaders.{few_cases, few_entries, plan_parts, answer_good, number_good, entry_reads}
 
 -- ---- no line has an end inside
 
@@ -74,14 +74,25 @@ entry_plain form (Planned p) f =
     let few = few_layers p.count p.layers q.layers in
     let answers = all_both IsPlain (answer_lines (p.allowed, p.stack)) (end_line ∷ []) (answer_plain p.order (length p.layers) few (p.allowed, p.stack) (answer_good form p q)) (end_plain, tt) in
     let layers = all_both IsPlain (layers_lines p.layers) (answer_lines (p.allowed, p.stack) ++ end_line ∷ []) (layers_plain p.count p.layers q.layers) answers in
-    let rest = all_both IsPlain (cert_lines p.cert) (layers_lines p.layers ++ (answer_lines (p.allowed, p.stack) ++ end_line ∷ [])) (cert_plain form p.cert q.cert) layers in
-    (number_plain form (Planned p) p.number q.number,
-    (id_plain p.order.id (passes p.order o.order).id,
-    (plain_spaced (order_words form p.order) (order_solid form p.order q.order),
-    (plain_spaced (reduced_words p.reduced) (reduced_solid p.reduced),
-    (plain_spaced (count_words p.count) (named_solid (codes "count") (most_cases form) p.count (few_cases form) refl q.count),
-    (plain_spaced (bound_words p.bound) (named_solid (codes "bound") (most_cases form) p.bound (few_cases form) refl q.bound),
-    (status_plain p.status, rest)))))))
+    let rest = all_both IsPlain (cert_lines p.cert) (layers_lines p.layers ++ (answer_lines (p.allowed, p.stack) ++ end_line ∷ [])) (cert_plain form p.cert q.cert) layers in (
+      number_plain form (Planned p) p.number q.number,
+      (
+        id_plain p.order.id (passes p.order o.order).id,
+        (
+          plain_spaced (order_words form p.order) (order_solid form p.order q.order),
+          (
+            plain_spaced (reduced_words p.reduced) (reduced_solid p.reduced),
+            (
+              plain_spaced (count_words p.count) (named_solid (codes "count") (most_cases form) p.count (few_cases form) refl q.count),
+              (
+                plain_spaced (bound_words p.bound) (named_solid (codes "bound") (most_cases form) p.bound (few_cases form) refl q.bound),
+                (status_plain p.status, rest),
+              ),
+            ),
+          ),
+        ),
+      ),
+    )
 entry_plain form (Refused n fault) f = (number_plain form (Refused n fault) n (number_good form (Refused n fault) f), (fault_plain fault, (end_plain, tt)))
 
 -- ---- an entry has few lines
@@ -120,3 +131,12 @@ no_entry_fault form = no_fault (entry_lines form) (IsInRange form) (entry_at for
 
 pub entry_stopped : (form : Form) (bytes : List ℕ) (left : ℕ) → entry_at form (whole_lines bytes) ≡ Err left → Stopped (entry_lines form) (IsInRange form) (entry_at form) (entry_reads form) (entry_plain form) bytes 120300 left
 entry_stopped form bytes left e = stopped (entry_lines form) (IsInRange form) (entry_at form) (entry_reads form) (entry_plain form) bytes 120300 left (few_entry_lines form) e
+
+pub entries_one_spelling : (form : Form) → HasOneSpelling (entry_lines form) (IsInRange form)
+entries_one_spelling form = has_one_spelling (entry_lines form) (IsInRange form) (entry_at form) (entry_reads form) (entry_plain form)
+
+-- the entry that was read is the one in front, and so is what stands behind it
+pub this_entry : (form : Form) (bytes rest behind : List ℕ) (d e : Entry) → entry_at form (whole_lines bytes) ≡ Ok (d, whole_lines rest) → unfinished rest ≡ unfinished bytes → IsInRange form e → bytes ≡ entry_text form e ++ behind → (d ≡ e) × (rest ≡ behind)
+this_entry form bytes rest behind d e read u fits parts =
+    let g = got_entry form bytes rest d read u in
+    entries_one_spelling form d e rest behind g.fits fits (sym g.parts ∙ parts)

@@ -1,10 +1,7 @@
 -- An entry is read exactly, line by line.
-use Rattle.std.proofs.Common.{◌≡◌, ℕ, suc, ◌≤◌, ◌+◌, List, [], ◌∷◌, ◌++◌, length, Option, Some, None, Result, Ok, Err, refl, sym, ap, subst, ◌∙◌, append_assoc, arith, Bool, true, false, leb, cond, inl, inr}
+use Rattle.std.proofs.Common.{◌≡◌, ℕ, suc, ◌≤◌, List, [], ◌∷◌, ◌++◌, length, Option, Some, None, Ok, Err, refl, sym, ap, subst, ◌∙◌, arith, Bool, true, false, leb, cond, inl, inr}
 use Rattle.std.specs.Prelude.{◌&&◌, codes}
 use Rattle.std.specs.Str.{bytes_eq}
-use Rattle.std.specs.List.{AllByRecursion}
-use Rattle.std.proofs.lemmas.Bool.{leb-true, le-leb}
-use Rattle.std.proofs.lemmas.List.{append-nil}
 use Rattle.std.proofs.lemmas.Slice.Eq.{bytes_eq-Decides}
 use Rattle.texts.specs.Lines.{spaced}
 use Rattle.texts.specs.Grammar.{Begins, NoneGoesOn, StopsAt, Reads, Reading, ◌>>=◌, or_stop, first_by}
@@ -21,7 +18,6 @@ use Rattle.weightings.specs.declared.certs.Cert.{Cert}
 use Rattle.plan_geometry.specs.declared.instances.Inst.{Inst}
 use Rattle.order_reader.specs.Columns.{all_columns}
 use Rattle.order_reader.specs.Faults.{is_id, fits, is_small}
-use Rattle.order_reader.specs.Orders.{OrderValue}
 use Rattle.order_reader.specs.declared.faults.RowFault.{RowFault}
 use Rattle.order_reader.specs.declared.faults.RowFault.TheVariants as faults
 use Rattle.order_reader.proofs.OrderFacts.{passes}
@@ -32,14 +28,13 @@ use Rattle.listing_text.specs.Lines.{layers_at, answer_at}
 use Rattle.listing_text.proofs.LayerReaders.{few_layers, layers_read}
 use Rattle.listing_text.proofs.AnswerReaders.{answer_reads}
 use Rattle.plan_entries.specs.Entries.{number_of_entry}
-use Rattle.plan_entries.specs.Ranges.{most_entries, most_cases, is_within, order_in_range, layers_in_range, stack_in_range, numbers_in_range, plan_in_range, fault_in_range, entry_in_range, IsInRange}
+use Rattle.plan_entries.specs.Ranges.{most_entries, most_cases, is_within, order_in_range, layers_in_range, stack_in_range, numbers_in_range, plan_in_range, fault_in_range, IsInRange}
 use Rattle.plan_entries.specs.declared.listed.Listed.{Listed}
-use Rattle.plan_entries.specs.declared.entries.Status.{Status}
 use Rattle.plan_entries.specs.declared.entries.Status.TheVariants.{Optimal}
 use Rattle.plan_entries.specs.declared.entries.Plan.{Plan}
 use Rattle.plan_entries.specs.declared.entries.Entry.{Entry}
 use Rattle.plan_entries.specs.declared.entries.Entry.TheVariants.{Planned, Refused}
-use Rattle.report_text.specs.LineTexts.{number_words, id_line, fault_line, order_words, reduced_words, count_words, bound_words, status_line, end_line}
+use Rattle.report_text.specs.LineTexts.{number_words, order_words, reduced_words, count_words, bound_words, status_line, end_line}
 use Rattle.report_text.specs.Text.{entry_lines}
 use Rattle.report_text.specs.Words.{number_of_line, count_of_line, bound_of_line, status_of_line, second_of, order_of_line, reduced_of_line}
 use Rattle.report_text.specs.HeadLines.{head_from}
@@ -47,7 +42,7 @@ use Rattle.report_text.specs.Lines.{behind_line, plan_from, entry_of_second, ent
 use Rattle.report_text.specs.declared.heads.PlanHead.{PlanHead}
 use Rattle.report_text.specs.declared.seconds.Second.{Second}
 use Rattle.report_text.specs.declared.seconds.Second.TheVariants as seconds
-use Rattle.report_text.proofs.EntryWords.{IsWithin, within_is, is_within_from, named_reads, status_reads, reduced_reads}
+use Rattle.report_text.proofs.EntryWords.{IsWithin, named_reads, status_reads, reduced_reads}
 use Rattle.report_text.proofs.OrderWords.{IsOrderOf, order_reads, unit_order, has_order}
 use Rattle.report_text.proofs.FaultWords.{GoodFault, second_line, GoodSecond, second_reads}
 
@@ -245,9 +240,12 @@ GoodPlan form n id p = (plan_in_range form p ≡ true) × (p.number ≡ n) × (p
 plan_made : (form : Form) (n : ℕ) (id : List ℕ) (h : PlanHead) (c : Cert) (l : List Listed) (a : ℕ × StackAnswer) → IsWithin (most_entries form) n → GoodHead form id h → InRange form c → AreLayersInRange h.count l → IsAnswerInRange h.order (length l) a
     → GoodPlan form n id (record { number = n; order = h.order; reduced = h.reduced; count = h.count; bound = h.bound; status = h.status; cert = c; layers = l; allowed = a.0; stack = a.1 })
 plan_made form n id h c l a hn hh hc hl ha =
-    let s = both_true (leb a.0 10000) (stack_in_range h.order (length l) a.1) ha in
-    (plan_from_parts form (record { number = n; order = h.order; reduced = h.reduced; count = h.count; bound = h.bound; status = h.status; cert = c; layers = l; allowed = a.0; stack = a.1 })
-    (record { number = hn; count = hh.count; bound = hh.bound; allowed = s.0; order = hh.order.0; cert = hc; layers = hl; stack = s.1 }), refl, hh.order.1)
+    let s = both_true (leb a.0 10000) (stack_in_range h.order (length l) a.1) ha in (
+      plan_from_parts form (record { number = n; order = h.order; reduced = h.reduced; count = h.count; bound = h.bound; status = h.status; cert = c; layers = l; allowed = a.0; stack = a.1 })
+          (record { number = hn; count = hh.count; bound = hh.bound; allowed = s.0; order = hh.order.0; cert = hc; layers = hl; stack = s.1 }),
+      refl,
+      hh.order.1,
+    )
 
 few_variants : (count : ℕ) (l : List Listed) → AreLayersInRange count l → length l ≤ 8
 few_variants = few_layers

@@ -1,11 +1,11 @@
 -- The lines of numbers, of the status and of the planned instance are read exactly.
-use Rattle.std.proofs.Common.{◌≡◌, ℕ, ◌≤◌, List, [], ◌∷◌, ◌++◌, Option, Some, None, refl, sym, ap, subst, ◌∙◌, arith, Bool, true, leb, cond, inl, inr}
-use Rattle.std.specs.Prelude.{decimal, codes, ◌&&◌, option_map}
+use Rattle.std.proofs.Common.{◌≡◌, ℕ, ◌≤◌, List, [], ◌∷◌, Some, None, refl, sym, ap, ◌∙◌, arith, true, leb, cond, inl, inr}
+use Rattle.std.specs.Prelude.{decimal, codes, option_map}
 use Rattle.std.specs.Str.{bytes_eq}
 use Rattle.std.specs.List.{AllByRecursion}
 use Rattle.std.proofs.lemmas.Bool.{leb-true, le-leb}
 use Rattle.std.proofs.lemmas.Slice.Eq.{bytes_eq-Decides}
-use Rattle.texts.specs.Lines.{spaced, words_of}
+use Rattle.texts.specs.Lines.{spaced}
 use Rattle.texts.specs.Words.{◌>>=◌, word_by, behind, number_up_to}
 use Rattle.texts.proofs.Parsers.{Parses, parses_behind, parses_checked, parses_as, number_then, both_true, guard_some, map_some, some_is, IsWord, few_wide, words_spaced, ReadsLine, reads_line}
 use Rattle.cert_text.proofs.OneWord.{Any, pick}

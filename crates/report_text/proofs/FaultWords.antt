@@ -1,14 +1,14 @@
 -- The second line of an entry is read exactly.
-use Rattle.std.proofs.Common.{◌≡◌, ℕ, List, [], ◌∷◌, ◌++◌, length, take, drop, Option, Some, None, refl, sym, ap, subst, ◌∙◌, Bool, true, leb, cond, inl, inr}
-use Rattle.std.specs.Prelude.{codes, option_map, ◌&&◌}
+use Rattle.std.proofs.Common.{◌≡◌, ℕ, List, [], ◌∷◌, ◌++◌, take, drop, Option, Some, None, refl, sym, ap, subst, ◌∙◌, true, cond, inl, inr}
+use Rattle.std.specs.Prelude.{codes, option_map}
 use Rattle.std.specs.Str.{bytes_eq}
-use Rattle.std.specs.List.{list_all, AllByRecursion}
+use Rattle.std.specs.List.{AllByRecursion}
 use Rattle.std.proofs.lemmas.List.{take-append-drop}
 use Rattle.std.proofs.lemmas.Slice.Eq.{bytes_eq-Decides}
-use Rattle.texts.specs.Lines.{spaced, words_of}
+use Rattle.texts.specs.Lines.{words_of}
 use Rattle.texts.specs.Words.{◌>>=◌, word_by, behind}
 use Rattle.texts.proofs.LineEnds.{IsPlain}
-use Rattle.texts.proofs.Parsers.{Parses, parses_word, parses_behind, parses_none, parses_then, parses_as, both_true, guard_some, map_some, some_is, IsWord, words_spaced, plain_spaced, ReadsLine, reads_line}
+use Rattle.texts.proofs.Parsers.{Parses, parses_word, parses_behind, parses_none, parses_then, parses_as, guard_some, map_some, some_is, IsWord, words_spaced, plain_spaced, ReadsLine, reads_line}
 use Rattle.cert_text.proofs.OneWord.{Any, pick, three_of, three_is}
 use Rattle.order_reader.specs.Columns.{column_name}
 use Rattle.order_reader.specs.Faults.{is_id}

@@ -4,5 +4,10 @@ pub mod OrderWords
 pub mod FaultWords
 pub mod EntryReaders
 pub mod EntryBytes
+pub mod EntryPieces
 pub mod NextLines
 pub mod ReportReaders
+pub mod ReportLoop
+pub mod ReportBytes
+pub mod OldForm
+pub mod TextLengths

@@ -1,11 +1,11 @@
 -- The lines between the entries of a report are read exactly.
-use Rattle.std.proofs.Common.{◌≡◌, ℕ, ◌≤◌, ◌+◌, List, [], ◌∷◌, Option, Some, None, refl, sym, ap, ◌∙◌, arith, cond, inl, inr}
+use Rattle.std.proofs.Common.{◌≡◌, ℕ, ◌≤◌, ◌+◌, List, [], ◌∷◌, Some, None, refl, sym, ap, ◌∙◌, arith, cond, inl, inr}
 use Rattle.std.specs.Prelude.{decimal, codes}
 use Rattle.std.specs.Str.{bytes_eq}
 use Rattle.std.specs.List.{AllByRecursion}
 use Rattle.std.proofs.lemmas.Slice.Eq.{bytes_eq-Decides}
 use Rattle.texts.specs.Lines.{spaced, words_of}
-use Rattle.texts.specs.Words.{◌>>=◌, word_by, behind, this_number}
+use Rattle.texts.specs.Words.{◌>>=◌, word_by, this_number}
 use Rattle.texts.proofs.Parsers.{Parses, parses_word, parses_behind, parses_none, parses_then, parses_as, parses_this, guard_some, some_is, IsWord, few_wide, words_spaced, ReadsLine, reads_line}
 use Rattle.cert_text.proofs.OneWord.{Any, pick}
 use Rattle.cert_text.specs.declared.forms.Form.{Form}

@@ -1,21 +1,21 @@
 -- The line of an order is read exactly.
-use Rattle.std.proofs.Common.{◌≡◌, ℕ, suc, ◌≤◌, ◌+◌, ◌*◌, ◌/◌, List, [], ◌∷◌, ◌++◌, length, map, take, drop, get_or, Option, Some, None, refl, sym, ap, subst, ◌∙◌, arith, Bool, true, false, leb, eqb, eq-eqb, drop-cons}
+use Rattle.std.proofs.Common.{◌≡◌, ℕ, ◌*◌, ◌/◌, List, [], ◌∷◌, ◌++◌, length, map, take, drop, get_or, Option, Some, None, refl, sym, ap, subst, ◌∙◌, arith, true, leb, eqb, drop-cons}
 use Rattle.std.specs.Prelude.{decimal, codes, ◌&&◌, not, is_some, option_map}
 use Rattle.std.specs.List.{list_all, AllByRecursion}
-use Rattle.std.proofs.lemmas.Bool.{leb-true, le-leb, eqb-true}
-use Rattle.std.proofs.lemmas.List.{take-append-drop, take_at, length-take, length-drop, length-append, append-nil, nil_from_length}
+use Rattle.std.proofs.lemmas.Bool.{le-leb, eqb-true}
+use Rattle.std.proofs.lemmas.List.{take-append-drop, take_at, length-take, length-drop, length-append, nil_from_length}
 use Rattle.std.proofs.lemmas.List.Folds.{list_all-append}
 use Rattle.std.proofs.lemmas.List.Sums.{list_all-from_AllPass}
 use Rattle.texts.specs.Lines.{spaced, words_of}
 use Rattle.texts.specs.Words.{◌>>=◌, numbers_by, all_words}
-use Rattle.texts.proofs.Parsers.{Parses, parses_behind, AreNumbers, numbers_parse, numbers_solid, both_true, guard_some, map_some, bind_some, some_is, IsWord, words_spaced, ReadsLine, reads_line}
+use Rattle.texts.proofs.Parsers.{Parses, parses_behind, AreNumbers, numbers_parse, numbers_solid, both_true, guard_some, map_some, bind_some, IsWord, words_spaced, ReadsLine, reads_line}
 use Rattle.order_reader.specs.Orders.{OrderValue, order_with, pallet_x_of, pallet_y_of, long_of, short_of, gap_of}
 use Rattle.order_reader.specs.Faults.{order_fault, IsOrder}
 use Rattle.order_reader.specs.declared.faults.RowFault.{RowFault}
 use Rattle.order_reader.proofs.OrderFacts.{passes, number-limited}
 use Rattle.cert_text.specs.declared.forms.Form.{Form}
 use Rattle.cert_text.specs.declared.forms.Form.TheVariants.{One, Two}
-use Rattle.plan_entries.specs.Ranges.{is_old_order, has_orders_of, order_in_range}
+use Rattle.plan_entries.specs.Ranges.{has_orders_of, order_in_range}
 use Rattle.report_text.specs.LineTexts.{numbers_written, order_words}
 use Rattle.report_text.specs.Words.{number_count, all_numbers, numbers_at, numbers_of_line, order_if, order_of_line}
 

@@ -1,8 +1,8 @@
 -- A report is read exactly, entry by entry.
-use Rattle.std.proofs.Common.{◌≡◌, ℕ, zero, suc, ◌≤◌, ◌+◌, ◌*◌, List, [], ◌∷◌, ◌++◌, length, Ok, Err, refl, sym, ap, subst, ◌∙◌, append_assoc, arith}
+use Rattle.std.proofs.Common.{◌≡◌, ℕ, zero, suc, ◌≤◌, ◌+◌, ◌*◌, List, [], ◌∷◌, ◌++◌, length, Ok, refl, sym, ap, subst, ◌∙◌, append_assoc, arith}
 use Rattle.std.specs.Prelude.{codes}
 use Rattle.std.specs.List.{AllByRecursion}
-use Rattle.std.proofs.lemmas.List.{append-nil, length-append}
+use Rattle.std.proofs.lemmas.List.{length-append}
 use Rattle.std.proofs.lemmas.List.Concat.{flat_map-cons}
 use Rattle.texts.specs.Lines.{spaced}
 use Rattle.texts.specs.Grammar.{Reads, Reading, ◌>>=◌, first_by}
@@ -14,8 +14,7 @@ use Rattle.cert_text.specs.declared.forms.Form.{Form}
 use Rattle.cert_text.specs.declared.forms.Form.TheVariants.{One, Two}
 use Rattle.order_reader.specs.declared.faults.RowFault.TheVariants as faults
 use Rattle.listing_text.proofs.LayerReaders.{all_both}
-use Rattle.plan_entries.specs.Entries.{number_of_entry}
-use Rattle.plan_entries.specs.Ranges.{most_entries, IsInRange}
+use Rattle.plan_entries.specs.Ranges.{most_entries}
 use Rattle.plan_entries.specs.declared.entries.Entry.{Entry}
 use Rattle.plan_entries.specs.declared.entries.Entry.TheVariants.{Refused}
 use Rattle.report_text.specs.LineTexts.{number_words}
@@ -23,11 +22,11 @@ use Rattle.report_text.specs.Text.{entry_lines}
 use Rattle.report_text.specs.Lines.{entry_behind}
 use Rattle.report_text.specs.NextWords.{done_of, next_of}
 use Rattle.report_text.specs.ReportLines.{form_of, entries_behind, entries_from}
-use Rattle.report_text.specs.Reports.{Report, head_line, done_line, entries_lines, report_lines, AreNumberedFrom, AreReported, IsReport}
+use Rattle.report_text.specs.Reports.{Report, head_line, done_line, entries_lines, report_lines, AreNumberedFrom, IsReport}
 use Rattle.report_text.specs.declared.nexts.Next.{Next}
 use Rattle.report_text.specs.declared.nexts.Next.TheVariants.{Done, More}
-use Rattle.report_text.proofs.EntryWords.{IsWithin, within_is, is_within_from}
-use Rattle.report_text.proofs.EntryReaders.{by_line, carried, reads_into, few_entries, behind_number, IsEntryOf, behind_reads, number_good, entry_split}
+use Rattle.report_text.proofs.EntryWords.{IsWithin, is_within_from}
+use Rattle.report_text.proofs.EntryReaders.{by_line, carried, reads_into, few_entries, behind_number, IsEntryOf, behind_reads, entry_split}
 use Rattle.report_text.proofs.EntryBytes.{entry_plain, few_entry_lines}
 use Rattle.report_text.proofs.NextLines.{done_words, done_solid, done_reads, next_words, next_reads, form_reads}
 

@@ -8,3 +8,6 @@ pub mod Answers
 pub mod Reports
 pub mod NextWords
 pub mod ReportLines
+pub mod Cursors
+pub mod ReportAnswers
+pub mod Lengths

@@ -2,7 +2,6 @@
 use Rattle.std.specs.Prelude.{ℕ, suc, List, [], ◌∷◌, length, Result, Ok, Err, if◌then◌else◌}
 use Rattle.std.specs.Str.{bytes_eq}
 use Rattle.texts.specs.Grammar.{Reading, ◌>>=◌, first_by}
-use Rattle.order_reader.specs.declared.faults.RowFault.{RowFault}
 use Rattle.cert_text.specs.Lines.{cert_at}
 use Rattle.cert_text.specs.declared.forms.Form.{Form}
 use Rattle.listing_text.specs.Lines.{layers_at, answer_at}
@@ -28,18 +27,21 @@ plan_from form number id ls = do
   layers ← layers_at head.0.count cert.1
   answer ← answer_at head.0.order (length layers.0) layers.1
   rest ← behind_line end_line answer.1
-  Ok (record {
-    number = number;
-    order = head.0.order;
-    reduced = head.0.reduced;
-    count = head.0.count;
-    bound = head.0.bound;
-    status = head.0.status;
-    cert = cert.0;
-    layers = layers.0;
-    allowed = answer.0.0;
-    stack = answer.0.1;
-  }, rest)
+  Ok (
+    record {
+      number = number;
+      order = head.0.order;
+      reduced = head.0.reduced;
+      count = head.0.count;
+      bound = head.0.bound;
+      status = head.0.status;
+      cert = cert.0;
+      layers = layers.0;
+      allowed = answer.0.0;
+      stack = answer.0.1;
+    },
+    rest,
+  )
 
 -- an entry whose number and second line were read
 unfoldable pub entry_of_second : Form → ℕ → Second → List (List ℕ) → Reading (List ℕ) Entry

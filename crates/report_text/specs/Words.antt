@@ -1,5 +1,5 @@
 -- Reading an entry's lines, each by itself.
-use Rattle.std.specs.Prelude.{ℕ, List, [], ◌∷◌, ◌++◌, codes, Option, Some, None, option_map, Bool, nat_le, take, drop, find, if◌then◌else◌}
+use Rattle.std.specs.Prelude.{ℕ, List, [], ◌∷◌, ◌++◌, codes, Option, Some, None, option_map, nat_le, take, drop, find, if◌then◌else◌}
 use Rattle.std.specs.Str.{bytes_eq}
 use Rattle.texts.specs.Lines.{words_of}
 use Rattle.texts.specs.Words.{◌>>=◌, word_by, behind, number_up_to, numbers_by, all_words}

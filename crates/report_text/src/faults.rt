@@ -74,7 +74,11 @@ fn column_word(form: Form, words: Option<&[u8]>) -> Option<(Field, Option<&[u8]>
 }
 
 #[tactic(auto, unfolding(crate::specs::Words::fault_of_name))]
-fn fault_words(form: Form, name: FaultName, words: Option<&[u8]>) -> Option<(RowFault, Option<&[u8]>)>
+fn fault_words(
+    form: Form,
+    name: FaultName,
+    words: Option<&[u8]>,
+) -> Option<(RowFault, Option<&[u8]>)>
     ensures { GivesOption (λ x. (x.0, words_left x.1)) result (fault_of_name form name (words_left words.entry)) }
 {
     match name {

@@ -111,7 +111,12 @@ fn order_of(alloc: Global, form: Form, id: &[u8], numbers: [u32; 12]) -> Result<
 
 // The order of an id and the line of its numbers.
 #[tactic(auto, unfolding(crate::specs::Words::order_of_line))]
-pub(crate) fn order_line(alloc: Global, form: Form, id: &[u8], line: &[u8]) -> Result<Order, LineStop>
+pub(crate) fn order_line(
+    alloc: Global,
+    form: Form,
+    id: &[u8],
+    line: &[u8],
+) -> Result<Order, LineStop>
     ensures { GivesLine (λ o. o) result (order_of_line form id.now line.now) }
 {
     let numbers = numbers_line(alloc, form, line)?;

@@ -71,7 +71,11 @@ fn id_bytes(line: &[u8]) -> Option<&[u8]>
         return None;
     }
     let (front, id) = line.split_at(3);
-    if front == b"id ".as_slice() { Some(id) } else { None }
+    if front == b"id ".as_slice() {
+        Some(id)
+    } else {
+        None
+    }
 }
 
 // The id of a line's bytes.

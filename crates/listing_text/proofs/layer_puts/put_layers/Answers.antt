@@ -15,5 +15,5 @@ returns c =
     let e1 : c.put_text.new.out.items ≡ c.put_named.new.out.items ++ codes "\n" = c.in_ok-put_text.ensures in
     let e2 : Puts c.put_text.new.out.items c.put_listed.new.out.items (text_of (listed_lines 1 ls)) c.put_listed.result = rw c.as_slice-layers.ensures at c.put_listed.ensures in
     let p = then_puts a.out.now.items c.put_named.new.out.items c.put_listed.new.out.items (codes "layers " ++ decimal (length ls)) (codes "\n" ++ text_of (listed_lines 1 ls)) c.put_listed.result e0
-        (then_puts c.put_named.new.out.items c.put_text.new.out.items c.put_listed.new.out.items (codes "\n") (text_of (listed_lines 1 ls)) c.put_listed.result e1 e2) in
+    (then_puts c.put_named.new.out.items c.put_text.new.out.items c.put_listed.new.out.items (codes "\n") (text_of (listed_lines 1 ls)) c.put_listed.result e1 e2) in
     puts_as a.out.now.items c.put_listed.new.out.items ((codes "layers " ++ decimal (length ls)) ++ (codes "\n" ++ text_of (listed_lines 1 ls))) (layers_text ls) c.put_listed.result p (simp append_assoc)

@@ -1,4 +1,4 @@
-use Rattle.std.proofs.Common.{◌≤◌, length, sym, ap, subst, ◌∙◌, ℕ, List}
+use Rattle.std.proofs.Common.{◌≤◌, length, sym, subst, List}
 use Rattle.texts.specs.Lines.{whole_lines}
 use Rattle.plan_entries.specs.declared.listed.Listed.{Listed}
 use Rattle.report_text.proofs.EntryReaders.{layers_few}

@@ -1,4 +1,4 @@
-use Rattle.std.proofs.Common.{◌≡◌, Option, Some, None, sym, ap, subst, ◌∙◌, Bool, true, false, refl}
+use Rattle.std.proofs.Common.{◌≡◌, Option, Some, None, sym, ap, ◌∙◌, false}
 use Rattle.std.proofs.lemmas.Bool.{false≢true}
 use Rattle.order_reader.specs.declared.fields.Field.{Field}
 use Rattle.plan_entries.specs.Ranges.{has_column}
@@ -21,6 +21,6 @@ returns-then-has_column c = this_column c.args.form c.args.name.now c.in-Some.fi
 pub returns-else-has_column : goal.returns-else-has_column
 returns-else-has_column c =
     no_column c.args.form c.args.name.now (λ field is stands.
-        let same : c.in-Some.field ≡ field = some_is c.in-Some.field field (c.in-Some.ensures.each field is) in
-        let fails : has_column c.args.form c.in-Some.field ≡ false = sym c.has_column.ensures ∙ c.if-has_column.false in
-        false≢true (sym fails ∙ ap (has_column c.args.form) same ∙ stands))
+    let same : c.in-Some.field ≡ field = some_is c.in-Some.field field (c.in-Some.ensures.each field is) in
+    let fails : has_column c.args.form c.in-Some.field ≡ false = sym c.has_column.ensures ∙ c.if-has_column.false in
+    false≢true (sym fails ∙ ap (has_column c.args.form) same ∙ stands))

@@ -1,4 +1,4 @@
-use Rattle.std.proofs.Common.{◌≡◌, length, sym, ap, ◌∙◌}
+use Rattle.std.proofs.Common.{length, sym, ap, ◌∙◌}
 use Rattle.texts.proofs.Parsers.{some_is}
 use Rattle.report_text.specs.Words.{all_numbers}
 use Rattle.report_text.proofs.OrderWords.{written_count, all_count}
