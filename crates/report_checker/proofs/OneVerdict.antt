@@ -21,7 +21,7 @@ use Rattle.report_checker.specs.declared.verdicts.Verdict.{Verdict}
 use Rattle.report_checker.specs.declared.verdicts.Verdict.TheVariants as verdicts
 use Rattle.report_checker.specs.Places.{IsFirstWithout, IsFirstDifference}
 use Rattle.report_checker.specs.Verdicts.{clause_place, Holds, IsOtherVariant, IsItem, FailsFirst, IsPlanVerdict, IsVerdict, HasSoundPlan}
-use Rattle.report_checker.specs.Laws.{SoundPlansAreAccepted, EntriesHaveOneVerdict}
+use Rattle.report_checker.specs.Laws.{SoundPlansAreAccepted, EntriesHaveOneVerdict, AcceptedPlansAreSound}
 use Rattle.report_checker.proofs.Firsts.{one-without, one-difference, all-or-without, same-or-different}
 use Rattle.report_checker.proofs.Parts.{variants-listed}
 
@@ -172,7 +172,7 @@ accepted p s = (s, λ w k. one-of_plan p verdicts.Yes w s k)
 
 -- ---- what a yes tells
 
-tells-soundness : (e : Entry) → IsVerdict e verdicts.Yes → HasSoundPlan e
+pub tells-soundness : AcceptedPlansAreSound
 tells-soundness (entries.Planned p) s = record {
   plan = p;
   is_planned = refl;

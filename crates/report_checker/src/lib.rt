@@ -9,7 +9,7 @@ mod puts;
 mod verdicts;
 
 pub use judges::judge;
-pub use laws::{entries_have_one_verdict, sound_plans_are_accepted};
+pub use laws::{accepted_plans_are_sound, entries_have_one_verdict, sound_plans_are_accepted};
 pub use puts::put_verdict;
 pub use verdicts::{Clause, Verdict};
 

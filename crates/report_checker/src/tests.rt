@@ -128,55 +128,55 @@ fn no(clause: Clause, item: u32) -> Verdict {
     Verdict::No { clause, item }
 }
 
+// The verdict on the plan with this change.
+fn verdict_on(alloc: Global, change: Change) -> Result<Verdict, Fail> {
+    let entry = planned(alloc, change)?;
+    judged(alloc, &entry)
+}
+
 #[test]
 fn sound_plan(rt: HostRuntime) -> Result<(), Fail> {
-    let alloc = rt.alloc();
-    let yes = planned(alloc, sound())?;
-    assert!(rt; judged(alloc, &yes)? == Verdict::Yes);
+    assert!(rt; verdict_on(rt.alloc(), sound())? == Verdict::Yes);
+    Ok(())
+}
+
+#[test]
+fn refused_row(rt: HostRuntime) -> Result<(), Fail> {
     let fault = RowFault::DoesNotFit;
     let refused = Entry::Refused { number: 2, fault };
-    assert!(rt; judged(alloc, &refused)? == Verdict::Refused);
+    assert!(rt; judged(rt.alloc(), &refused)? == Verdict::Refused);
     Ok(())
 }
 
 #[test]
 fn layers_and_bounds(rt: HostRuntime) -> Result<(), Fail> {
-    let alloc = rt.alloc();
     let mut change = sound();
     change.reduced = [5, 4, 3, 2];
-    let other = planned(alloc, change)?;
-    assert!(rt; judged(alloc, &other)? == no(Clause::Reduced, 0));
-    let mut change = sound();
+    assert!(rt; verdict_on(rt.alloc(), change)? == no(Clause::Reduced, 0));
+    change = sound();
     change.x = 2;
-    let overlap = planned(alloc, change)?;
-    assert!(rt; judged(alloc, &overlap)? == no(Clause::Layout, 1));
-    let mut change = sound();
+    assert!(rt; verdict_on(rt.alloc(), change)? == no(Clause::Layout, 1));
+    change = sound();
     change.layers = 1;
     change.stack = [1, 1];
-    let lone = planned(alloc, change)?;
-    assert!(rt; judged(alloc, &lone)? == no(Clause::Variants, 2));
-    let mut change = sound();
+    assert!(rt; verdict_on(rt.alloc(), change)? == no(Clause::Variants, 2));
+    change = sound();
     change.bound = 3;
-    let low = planned(alloc, change)?;
-    assert!(rt; judged(alloc, &low)? == no(Clause::Bound, 0));
+    assert!(rt; verdict_on(rt.alloc(), change)? == no(Clause::Bound, 0));
     Ok(())
 }
 
 #[test]
 fn status_and_stacks(rt: HostRuntime) -> Result<(), Fail> {
-    let alloc = rt.alloc();
     let mut change = sound();
     change.status = Status::StillOpen;
-    let open = planned(alloc, change)?;
-    assert!(rt; judged(alloc, &open)? == no(Clause::Status, 0));
-    let mut change = sound();
+    assert!(rt; verdict_on(rt.alloc(), change)? == no(Clause::Status, 0));
+    change = sound();
     change.allowed = 3;
-    let high = planned(alloc, change)?;
-    assert!(rt; judged(alloc, &high)? == no(Clause::Allowed, 0));
-    let mut change = sound();
+    assert!(rt; verdict_on(rt.alloc(), change)? == no(Clause::Allowed, 0));
+    change = sound();
     change.stack = [1, 1];
-    let same = planned(alloc, change)?;
-    assert!(rt; judged(alloc, &same)? == no(Clause::Stack, 0));
+    assert!(rt; verdict_on(rt.alloc(), change)? == no(Clause::Stack, 0));
     Ok(())
 }
 
