@@ -1,6 +1,7 @@
 -- Entries one after another, and their texts.
 use Rattle.std.proofs.Common.{◌≡◌, ◌∙◌, ℕ, List, [], ◌∷◌, ◌++◌, ap, refl, sym, subst, append_assoc}
 use Rattle.std.specs.List.{All}
+use Rattle.std.specs.Prelude.{OnOk, Result, Ok, Err}
 use Rattle.std.proofs.lemmas.List.{append-nil}
 use Rattle.std.proofs.lemmas.List.Elements.{All-nil, All-cons, All-head, All-tail}
 use Rattle.std.proofs.lemmas.Grind.{flat_map-append}
@@ -30,3 +31,8 @@ copies-more before e = flat_map-append (entry_text Two) before (e ∷ []) ∙ ap
 
 pub copies-parts : (all before rest now : List Entry) (e : Entry) → all ≡ before ++ now → now ≡ e ∷ rest → entries_text Two all ≡ entries_text Two before ++ (entry_text Two e ++ entries_text Two rest)
 copies-parts all before rest now e is next = ap (λ l. entries_text Two l) (is ∙ ap (λ l. before ++ l) next) ∙ flat_map-append (entry_text Two) before (e ∷ rest)
+
+-- what is so where a call answered Ok follows from what is so then
+pub on-ok : {X E : Type 0} {P Q : Type 0} (r : Result X E) → (P → Q) → OnOk r P → OnOk r Q
+on-ok (Ok x) f h = f h
+on-ok (Err e) f h = h

@@ -1,2 +1,3 @@
 pub mod VerdictFacts
 pub mod Today
+pub mod Copies

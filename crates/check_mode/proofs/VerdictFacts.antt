@@ -4,7 +4,7 @@ use Rattle.std.specs.Prelude.{Bool, true, false, ◌==◌, ◌||◌}
 use Rattle.std.specs.Io.KnownBytes.{Appends}
 use Rattle.std.proofs.Math.Bool.{or-false}
 use Rattle.std.proofs.Math.Seq.{take-append-add}
-use Rattle.std.proofs.lemmas.List.{append-nil, take-append-le, take_all, length-take, length-take-le, length-append}
+use Rattle.std.proofs.lemmas.List.{append-nil, take-append-le, take_all, take_more, length-take, length-take-le, length-append}
 use Rattle.std.proofs.lemmas.List.Folds.{list_any-append}
 use Rattle.run_parts.specs.Written.{IsPrefixOf, AppendsPart}
 use Rattle.run_parts.proofs.Pieces.{part-more}
@@ -76,6 +76,14 @@ lines-next [] vs v d lt = absurd (omega (arith, lt))
 lines-next (e ∷ es) [] v d lt = append-nil (line_of e v)
 lines-next (e ∷ es) (w ∷ vs) v d lt =
     ap (λ t. line_of e w ++ t) (lines-next es vs v d (omega (arith, lt))) ∙ sym (append_assoc (line_of e w) (verdict_lines es vs) (line_of (get_or es (length vs) d) v))
+
+pub line-more : (es : List Entry) (vs : List Verdict) (i : ℕ) (e : Entry) (d : Verdict) → i < length vs → length vs ≡ length es → e ≡ get_or es i e → verdict_lines es (take (i + 1) vs) ≡ verdict_lines es (take i vs) ++ line_of e (get_or vs i d)
+line-more es vs i e d lt same is =
+    let count : length (take i vs) ≡ i = length-take-le i vs (omega (arith, lt)) in
+    let here : get_or es (length (take i vs)) e ≡ e = ap (λ k. get_or es k e) count ∙ sym is in
+    ap (λ (ws : List Verdict). verdict_lines es ws) (take_more vs i d lt)
+    ∙ lines-next es (take i vs) (get_or vs i d) e (omega (arith, lt, same, count))
+    ∙ ap (λ (x : Entry). verdict_lines es (take i vs) ++ line_of x (get_or vs i d)) here
 
 lines-none : (vs : List Verdict) → verdict_lines [] vs ≡ []
 lines-none [] = refl

@@ -2,4 +2,3 @@ pub mod Reading
 pub mod Verdicts
 pub mod Checks
 pub mod Upgrades
-pub mod Laws

@@ -3,10 +3,11 @@
 #![tactic(auto)]
 
 mod checks;
-mod laws;
 mod reading;
 mod upgrades;
 
 pub use checks::check;
-pub use laws::yes_means_sound;
 pub use upgrades::upgrade;
+
+#[cfg(test)]
+mod tests;

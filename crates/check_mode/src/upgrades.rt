@@ -1,5 +1,5 @@
 // Writing the entries of a report in the form of today.
-ghost use Rattle.std.specs.Prelude.{◌≡◌, ◌≢◌, ◌≤◌, ◌⊎◌, ◌+◌, ◌++◌, ◌∷◌, [], List, All, IfOk, OnOk, IsErrOf, MatchOption};
+ghost use Rattle.std.specs.Prelude.{◌≡◌, ◌≢◌, ◌≤◌, ◌⊎◌, ◌+◌, ◌++◌, ◌∷◌, ◌<◌, [], List, length, All, IfOk, OnOk, IsErrOf, MatchOption};
 ghost use Rattle.std.specs.Io.KnownBytes.{Appends};
 ghost use Rattle.plan_io.specs.Causes.{Rose};
 ghost use Rattle.plan_io.specs.Bytes.{TookAtMost, TookCount};
@@ -118,10 +118,28 @@ fn write_entries<K: Sink>(alloc: Global, entries: &mut Entries<'_>, sink: &mut K
         × Appends (K.written sink.old) (K.written sink.new) (entries_text Two first) }
     ensures later { K.faults sink.old ≤ K.faults sink.new }
 {
-    while let Some(entry) = next_entry(alloc, entries)? {
-        write_entry(alloc, &entry, sink)?;
+    while entries.left() > 0 {
+        write_next(alloc, entries, sink)?;
     }
     Ok(())
+}
+
+// Writes the text of the next entry.
+fn write_next<K: Sink>(alloc: Global, entries: &mut Entries<'_>, sink: &mut K) -> Result<(), WriteStop>
+    requires some { 0 < length entries.old.entries }
+    requires ranges { All (IsInRange Two) entries.old.entries }
+    ensures ok { OnOk result ((e : Entry) × (entries.old.entries ≡ e ∷ entries.new.entries)
+        × Appends (K.written sink.old) (K.written sink.new) (entry_text Two e)) }
+    ensures part { IsErrOf result WriteStop.Fault
+        → AppendsPart (K.written sink.old) (K.written sink.new) (entries_text Two entries.old.entries) }
+    ensures rose { IsErrOf result WriteStop.Fault → Rose (K.faults sink.old) (K.faults sink.new) }
+    ensures memory { IsErrOf result WriteStop.Memory → sink.new ≡ sink.old }
+    ensures later { K.faults sink.old ≤ K.faults sink.new }
+{
+    let Some(entry) = next_entry(alloc, entries)? else {
+        unreachable!();
+    };
+    write_entry(alloc, &entry, sink)
 }
 
 // The next entry, if one is left.

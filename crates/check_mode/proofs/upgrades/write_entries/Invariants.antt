@@ -7,13 +7,13 @@ use Rattle.plan_entries.specs.declared.entries.Entry.{Entry}
 use Rattle.report_text.specs.Reports.{entries_text}
 use Rattle.check_mode.proofs.upgrades.write_entries.Given as goal
 
-abbrev pub invariant-loop-entry : goal.invariant-loop-entry
-invariant-loop-entry g l = record {
+abbrev pub invariant-loop-alloc : goal.invariant-loop-alloc
+invariant-loop-alloc g l = record {
   wrote : (before : List Entry) × (l.initial.entries.entries ≡ before ++ l.entries.entries)
     × Appends (g.K.Sink.written l.initial.sink) (g.K.Sink.written l.sink) (entries_text Two before);
   later : g.K.Sink.faults l.initial.sink ≤ g.K.Sink.faults l.sink;
   ranges : All (IsInRange Two) l.entries.entries;
 }
 
-abbrev pub decreases-loop-entry : goal.decreases-loop-entry
-decreases-loop-entry g l = length l.entries.entries
+abbrev pub decreases-loop-alloc : goal.decreases-loop-alloc
+decreases-loop-alloc g l = length l.entries.entries
