@@ -1,0 +1,3 @@
+pub mod VerdictFacts
+pub mod Today
+pub mod Copies
