@@ -1,17 +1,17 @@
 -- Certificates by weights: what makes them accepted, how long they are, and that they have a text.
-use Rattle.std.proofs.Common.{◌≡◌, ◌≢◌, ℕ, suc, Bool, true, false, ◌+◌, ◌/◌, ◌<◌, ◌≤◌, ◌⊎◌, List, [], ◌∷◌, length, sym, subst, refl, arith, inl, inr}
-use Rattle.std.specs.Prelude.{nat_le, nat_lt, ◌&&◌, replicate}
+use Rattle.std.proofs.Common.{◌≡◌, ℕ, suc, Bool, true, false, ◌+◌, ◌/◌, ◌≤◌, List, [], ◌∷◌, length, subst, refl, arith, inl, inr}
+use Rattle.std.specs.Prelude.{◌&&◌}
 use Rattle.std.proofs.lemmas.Bool.{le-leb}
 use Rattle.plan_geometry.specs.declared.instances.Inst.{Inst}
 use Rattle.plan_geometry.specs.Weight.{total_weight, WeighsAtLeast}
 use Rattle.weightings.specs.declared.kinds.Weighting.{Weighting}
 use Rattle.weightings.specs.declared.kinds.Weighting.TheVariants.{Area, Colour, Comb, Table}
 use Rattle.weightings.specs.declared.certs.Mark.{Mark}
-use Rattle.weightings.specs.declared.certs.Mark.TheVariants.{Branch, Leaf}
+use Rattle.weightings.specs.declared.certs.Mark.TheVariants.{Leaf}
 use Rattle.weightings.specs.Weighting.{weight_of, IsCaseSide, IsMember, IsLeastWeight, IsWeightBound}
 use Rattle.weightings.specs.Lead.{IsLead}
 use Rattle.weightings.proofs.LeadSteps.{IsLeastWeight-unique, IsWeightBound-unique, IsMember-lawful}
-use Rattle.cert_rules.specs.Corner.{start, above, weight_above}
+use Rattle.cert_rules.specs.Corner.{start, above}
 use Rattle.cert_rules.specs.Refute.{Refutes, IsRefutation}
 use Rattle.cert_rules.proofs.BlockSums.{total-above}
 use Rattle.bound_checker.specs.Accepts.{AcceptsWeighted}

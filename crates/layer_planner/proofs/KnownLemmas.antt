@@ -1,5 +1,5 @@
 -- Bounds with their certificates, and the layer with what is left of them.
-use Rattle.std.proofs.Common.{◌≡◌, ℕ, true, ◌+◌, ◌-◌, ◌≤◌, ◌⊎◌, List, [], ◌∷◌, length, ap, sym, subst, refl, arith, inl, inr}
+use Rattle.std.proofs.Common.{◌≡◌, ℕ, ◌-◌, ◌≤◌, ◌⊎◌, List, [], ◌∷◌, length, sym, subst, refl, arith, inl, inr}
 use Rattle.plan_geometry.specs.declared.instances.Inst.{Inst}
 use Rattle.plan_geometry.specs.Layout.{CaseFits, area_bound_of}
 use Rattle.plan_geometry.specs.Placed.{Placed}
@@ -13,10 +13,9 @@ use Rattle.weightings.specs.Weighting.{weight_of, IsWeightBound}
 use Rattle.weightings.specs.Lead.{IsLead}
 use Rattle.cert_rules.specs.Refute.{IsRefutation}
 use Rattle.strip_cuts.specs.Cuts.{AcceptsStrip}
-use Rattle.strip_bound.specs.CutLists.{IsStripOf, IsStripBoundOf}
+use Rattle.strip_bound.specs.CutLists.{IsStripOf}
 use Rattle.layer_patterns.specs.Patterns.{HoldsPatterns}
 use Rattle.layer_planner.specs.declared.bounds.Known.{Known}
-use Rattle.layer_planner.specs.declared.settling.Settled.{Settled}
 use Rattle.layer_planner.specs.Quality.{most_states, IsAtMostFamily, IsAtMostStrip, HasLongWalk}
 use Rattle.layer_planner.specs.Searched.{IsGrown, IsTooLong}
 use Rattle.layer_planner.specs.Known.{IsKnown, IsSettled}

@@ -1,5 +1,5 @@
 -- Layers as they are listed, and the variants that they are.
-use Rattle.std.proofs.Common.{◌≡◌, ℕ, zero, suc, ◌+◌, ◌<◌, ◌≤◌, ◌↔◌, List, [], ◌∷◌, ◌++◌, length, map, take, ap, sym, subst, refl, ◌∙◌, arith, true, Option, Some, None}
+use Rattle.std.proofs.Common.{◌≡◌, ℕ, ◌≤◌, ◌↔◌, List, [], ◌∷◌, length, map, ap, sym, subst, refl, ◌∙◌, arith, true, Some}
 use Rattle.std.specs.List.{All, slice_get}
 use Rattle.std.proofs.lemmas.List.{length-map}
 use Rattle.std.proofs.lemmas.List.Elements.{All-head, All-tail, All-weaker, All-map}
@@ -7,7 +7,7 @@ use Rattle.std.proofs.lemmas.Option.{slice_get_within}
 use Rattle.plan_geometry.specs.declared.spots.Spot.{Spot}
 use Rattle.plan_geometry.specs.declared.instances.Inst.{Inst}
 use Rattle.plan_geometry.specs.Layout.{IsLayout}
-use Rattle.plan_geometry.specs.Placed.{Placed, IsLayer}
+use Rattle.plan_geometry.specs.Placed.{Placed}
 use Rattle.layer_symmetry.specs.declared.symmetries.Move.{Move}
 use Rattle.layer_symmetry.specs.declared.symmetries.Move.TheVariants.{Same}
 use Rattle.layer_symmetry.specs.Variants.{IsVariants, IsLayerOf}
@@ -19,7 +19,6 @@ use Rattle.plan_entries.specs.declared.listed.Listed.{Listed}
 use Rattle.plan_entries.specs.Entries.{variants_on, first_spots}
 use Rattle.plan_entries.specs.Ranges.{listed_in_range, stack_in_range}
 use Rattle.plan_soundness.specs.Sound.{IsListedLayer}
-use Rattle.layer_planner.specs.declared.listing.Listing.{Listing}
 use Rattle.layer_planner.specs.Listing.{listed, IsListing}
 use Rattle.layer_planner.proofs.RangeLemmas.{stack-text, listed-text, layers-text}
 

@@ -1,5 +1,5 @@
 -- The plan that is made of an order's parts.
-use Rattle.std.proofs.Common.{◌≡◌, ℕ, ◌≤◌, ◌↔◌, ◌⊎◌, length, sym, subst, ◌∙◌, true, arith, inl, inr}
+use Rattle.std.proofs.Common.{◌≡◌, ℕ, ◌≤◌, ◌↔◌, ◌⊎◌, length, sym, subst, ◌∙◌, arith, inl, inr}
 use Rattle.std.proofs.lemmas.Bool.{le-leb}
 use Rattle.plan_geometry.specs.declared.instances.Inst.{Inst}
 use Rattle.plan_geometry.specs.Layout.{area_bound_of, IsBounded}
@@ -17,7 +17,7 @@ use Rattle.plan_soundness.specs.Sound.{IsSound}
 use Rattle.layer_patterns.specs.Patterns.{HoldsPatterns}
 use Rattle.layer_planner.specs.declared.settling.Settled.{Settled}
 use Rattle.layer_planner.specs.declared.listing.Listing.{Listing}
-use Rattle.layer_planner.specs.Quality.{most_states, HasQuality, HasLongWalk, HasShortCert}
+use Rattle.layer_planner.specs.Quality.{most_states, HasQuality, HasLongWalk}
 use Rattle.layer_planner.specs.Known.{IsSettled}
 use Rattle.layer_planner.specs.Listing.{IsListing}
 use Rattle.layer_planner.proofs.SideLemmas.{bounds-given}

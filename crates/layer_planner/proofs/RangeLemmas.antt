@@ -1,14 +1,12 @@
 -- What is planned has a text.
-use Rattle.std.proofs.Common.{◌≡◌, ℕ, zero, suc, Bool, true, false, ◌+◌, ◌<◌, ◌≤◌, List, [], ◌∷◌, length, get_or, map, ap, sym, subst, refl, ◌∙◌, arith, inl, inr}
-use Rattle.std.specs.Prelude.{nat_le, ◌&&◌, ◌==◌, not, is_some, replicate, slice_index, None}
-use Rattle.std.specs.List.{All, list_all}
-use Rattle.std.specs.Cmp.Lexicographic.{pointwise}
+use Rattle.std.proofs.Common.{◌≡◌, ℕ, Bool, true, false, ◌+◌, ◌≤◌, List, [], ◌∷◌, length, get_or, map, ap, sym, subst, refl, arith}
+use Rattle.std.specs.Prelude.{◌&&◌, not, is_some, replicate, slice_index}
+use Rattle.std.specs.List.{All}
 use Rattle.std.proofs.lemmas.Bool.{le-leb, eq-eqb}
 use Rattle.std.proofs.lemmas.List.{get_or-replicate, length-replicate}
 use Rattle.std.proofs.lemmas.List.Sums.{list_all-from_AllPass}
 use Rattle.std.proofs.lemmas.List.Elements.{All-nil, All-same, All-weaker, All-from_get_or}
 use Rattle.plan_geometry.specs.declared.spots.Spot.{Spot}
-use Rattle.plan_geometry.specs.declared.spots.Way.{Way}
 use Rattle.plan_geometry.specs.declared.instances.Inst.{Inst}
 use Rattle.plan_geometry.specs.Placed.{Placed}
 use Rattle.plan_geometry.specs.Layout.{IsInside, IsLayout}
@@ -26,8 +24,7 @@ use Rattle.stack_builder.specs.Pairs.{spots_of, GoTogether}
 use Rattle.stack_builder.specs.Orders.{rules_of, IsStackOf}
 use Rattle.cert_text.specs.declared.forms.Form.TheVariants.{Two}
 use Rattle.plan_entries.specs.declared.listed.Listed.{Listed}
-use Rattle.plan_entries.specs.Ranges.{is_within, is_place, listed_in_range, layers_in_range, same_rule, same_rules, stack_in_range, order_in_range, numbers_in_range, plan_in_range}
-use Rattle.plan_entries.specs.declared.entries.Plan.{Plan}
+use Rattle.plan_entries.specs.Ranges.{is_within, is_place, listed_in_range, layers_in_range, same_rule, same_rules, stack_in_range, order_in_range}
 
 pub both : (a b : Bool) → a ≡ true → b ≡ true → (a && b) ≡ true
 both true true p q = refl

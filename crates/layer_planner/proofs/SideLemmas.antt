@@ -1,13 +1,11 @@
 -- Which numbers of the reduced instance are small, and that a case is on each layer.
-use Rattle.std.proofs.Common.{◌≡◌, ℕ, ◌*◌, ◌/◌, ◌<◌, ◌≤◌, ◌⊎◌, arith, inl, inr}
+use Rattle.std.proofs.Common.{ℕ, ◌*◌, ◌/◌, ◌<◌, ◌≤◌, arith, inl, inr}
 use Rattle.std.proofs.lemmas.Nat.{le-div}
 use Rattle.std.proofs.Math.Nat.{mul-le-mul}
 use Rattle.plan_geometry.specs.declared.spots.Way.TheVariants.{Lying, Standing}
 use Rattle.plan_geometry.specs.declared.instances.Inst.{Inst}
-use Rattle.plan_geometry.specs.Layout.{IsBounded, CaseFits, area_bound_of}
+use Rattle.plan_geometry.specs.Layout.{IsBounded, CaseFits}
 use Rattle.plan_geometry.specs.Grid.{grid_count}
-use Rattle.partitions.specs.Partitions.{SameSides}
-use Rattle.partitions.proofs.SameSides.{same_sides_symmetric}
 use Rattle.layout_map.proofs.Admits.{bounded_law}
 use Rattle.block_tree.specs.Trees.{uniform}
 use Rattle.block_tables.specs.declared.patterns.Pattern.TheVariants.{Five}

@@ -1,20 +1,20 @@
 -- The strip bound of an instance is one number, which bounds its layouts; and each of its cuts has a text.
-use Rattle.std.proofs.Common.{◌≡◌, ℕ, zero, suc, Bool, true, false, ◌+◌, ◌-◌, ◌*◌, ◌<◌, ◌≤◌, List, [], ◌∷◌, ◌++◌, length, get_or, ap, sym, subst, refl, ◌∙◌, arith, inl, inr}
-use Rattle.std.specs.Prelude.{nat_le, ◌&&◌}
+use Rattle.std.proofs.Common.{◌≡◌, ℕ, suc, Bool, true, false, ◌+◌, ◌*◌, ◌<◌, ◌≤◌, List, [], ◌∷◌, ◌++◌, length, get_or, ap, sym, subst, refl, ◌∙◌, arith, inl, inr}
+use Rattle.std.specs.Prelude.{◌&&◌}
 use Rattle.std.specs.List.{list_all}
 use Rattle.std.proofs.lemmas.Bool.{cases_lt, le-leb}
 use Rattle.std.proofs.lemmas.Grind.{same_number_lists}
 use Rattle.std.proofs.lemmas.List.Folds.{list_all-append}
 use Rattle.std.proofs.lemmas.List.Sums.{AllPass-from_list_all, list_all-from_AllPass}
 use Rattle.std.proofs.lemmas.List.Elements.{All-from_get_or}
-use Rattle.std.proofs.Math.Nat.{mul-le-mul, le_trans}
+use Rattle.std.proofs.Math.Nat.{mul-le-mul}
 use Rattle.plan_geometry.specs.declared.spots.Axis.{Axis}
 use Rattle.plan_geometry.specs.declared.spots.Axis.TheVariants.{X, Y}
 use Rattle.plan_geometry.specs.declared.spots.Way.TheVariants.{Lying, Standing}
 use Rattle.plan_geometry.specs.declared.instances.Inst.{Inst}
 use Rattle.plan_geometry.specs.Layout.{IsBounded}
 use Rattle.weightings.specs.declared.certs.StripCut.{StripCut}
-use Rattle.weightings.specs.declared.certs.StripCut.TheVariants.{Area, X as LinesOfX, Y as LinesOfY}
+use Rattle.weightings.specs.declared.certs.StripCut.TheVariants.{Area}
 use Rattle.strip_cuts.specs.Cuts.{IsGreatest, cases_of}
 use Rattle.strip_cuts.proofs.Bounds.{lie_or_stand, meet_cuts}
 use Rattle.strip_cuts.proofs.BestValues.{greatest-one, partition-small}

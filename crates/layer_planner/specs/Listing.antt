@@ -1,5 +1,5 @@
 -- What a plan lists of a layer of the order.
-use Rattle.std.specs.Prelude.{◌≡◌, ℕ, ◌≤◌, true, length, map, List, All}
+use Rattle.std.specs.Prelude.{◌≡◌, ℕ, ◌≤◌, true, length, All}
 use Rattle.plan_geometry.specs.declared.instances.Inst.{Inst}
 use Rattle.plan_geometry.specs.Placed.{Placed}
 use Rattle.layer_symmetry.specs.declared.symmetries.Move.{Move}

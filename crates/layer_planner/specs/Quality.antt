@@ -4,7 +4,6 @@ use Rattle.std.specs.Prelude.{◌≡◌, ℕ, ◌≤◌, ⊤, ◌⊎◌, length}
 use Rattle.plan_geometry.specs.declared.instances.Inst.{Inst}
 use Rattle.plan_geometry.specs.Layout.{area_bound_of}
 use Rattle.minimum_size.specs.Reduced.{IsReduced}
-use Rattle.order_reader.specs.Orders.{OrderValue}
 use Rattle.order_reader.specs.Instances.{IsGivenOf}
 use Rattle.weightings.specs.declared.kinds.Weighting.{Weighting}
 use Rattle.weightings.specs.declared.kinds.Weighting.TheVariants.{Area, Colour, Comb, Table}

@@ -112,3 +112,12 @@ fn certificates(rt: HostRuntime) -> Result<(), Fail> {
     assert!(rt; plan.status == Status::Optimal);
     Ok(())
 }
+
+// Where one case more is neither found nor refuted within the states that are visited.
+#[test]
+fn stays_open(rt: HostRuntime) -> Result<(), Fail> {
+    let plan = planned(rt.alloc(), 19, 12, 7, 2)?;
+    assert_eq!(rt; (plan.count, plan.bound, cuts_of(&plan)), (14, 15, 17));
+    assert!(rt; plan.status == Status::StillOpen);
+    Ok(())
+}

@@ -1,4 +1,4 @@
-use Rattle.std.proofs.Common.{◌≤◌, arith}
+use Rattle.std.proofs.Common.{arith}
 use Rattle.layer_planner.proofs.KnownLemmas.{grid-strip}
 use Rattle.layer_planner.proofs.bounds.least_known.Goals as goal
 

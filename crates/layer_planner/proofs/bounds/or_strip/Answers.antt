@@ -1,4 +1,4 @@
-use Rattle.std.proofs.Common.{◌≡◌, ◌-◌, ◌≤◌, length, ap, arith}
+use Rattle.std.proofs.Common.{◌≡◌, ◌-◌, length, ap, arith}
 use Rattle.layer_planner.proofs.KnownLemmas.{strip-known}
 use Rattle.layer_planner.proofs.StripLemmas.{strip-one}
 use Rattle.layer_planner.proofs.bounds.or_strip.Goals as goal

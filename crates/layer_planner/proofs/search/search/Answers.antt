@@ -1,7 +1,6 @@
-use Rattle.std.proofs.Common.{◌≡◌, ◌≤◌, ◌<◌, length, sym, arith}
+use Rattle.std.proofs.Common.{◌<◌, length, sym, arith}
 use Rattle.std.proofs.Math.Nat.{le_refl}
 use Rattle.weightings.specs.Weighting.{weight_of}
-use Rattle.layer_planner.proofs.CertLemmas.{lead-weighs}
 use Rattle.layer_planner.proofs.WalkLemmas.{found-tells, refuted-tells, spent-long}
 use Rattle.layer_planner.proofs.search.search.Goals as goal
 

@@ -1,4 +1,4 @@
-use Rattle.std.proofs.Common.{◌≡◌, ◌≤◌, length}
+use Rattle.std.proofs.Common.{◌≡◌, length}
 use Rattle.layer_planner.specs.Searched.{IsGrown}
 use Rattle.layer_planner.proofs.search.search.Given as goal
 
