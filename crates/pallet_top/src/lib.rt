@@ -1,0 +1,9 @@
+//! The whole program, over any source and sink.
+#![tactic(auto)]
+
+mod modes;
+mod runs;
+
+pub use par_judge::{Gate, OpenGate};
+pub use run_parts::{Answer, Code};
+pub use runs::{run, run_gated};
