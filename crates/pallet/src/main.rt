@@ -55,7 +55,9 @@ fn line_of(code: Code) -> &'static str {
     match code {
         Code::Done => "pallet: done",
         Code::Findings => "pallet: some rows or entries were not accepted",
-        Code::Usage => "usage: pallet plan",
+        Code::Usage => {
+            "usage: pallet plan [--draw] | check [--workers N] | upgrade | trial --number N"
+        }
         Code::TooLong => "pallet: input too long",
         Code::NoHeader => "pallet: no header",
         Code::TooManyRows => "pallet: too many rows",

@@ -7,3 +7,6 @@ mod runs;
 pub use par_judge::{Gate, OpenGate};
 pub use run_parts::{Answer, Code};
 pub use runs::{run, run_gated};
+
+#[cfg(test)]
+mod tests;
