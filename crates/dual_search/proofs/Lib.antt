@@ -1,0 +1,9 @@
+pub mod Cells
+pub mod Rows
+pub mod Least
+pub mod Held
+pub mod Bests
+pub mod Boards
+pub mod Findings
+pub mod OneRound
+pub mod OneDual

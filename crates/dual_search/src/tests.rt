@@ -1,0 +1,87 @@
+use crate::{MOST_ROUNDS, dual, table_toward};
+use plan_geometry::{Inst, case_fits};
+use plan_memory::Memory;
+use std::alloc::Global;
+use std::test::Fail;
+use weightings::{WeightTable, Weighting};
+
+// The table, where there is one to ask for.
+fn table(alloc: Global, inst: Inst, rounds: u32) -> Result<Option<WeightTable>, Memory> {
+    if case_fits(inst) && inst.l_side <= 200 && inst.w_side <= 200 && rounds <= MOST_ROUNDS {
+        dual(alloc, inst, rounds)
+    } else {
+        Ok(None)
+    }
+}
+
+// The total, the least weight and the bound of the table, where it is one of the instance.
+fn measures(inst: Inst, table: WeightTable) -> Option<(u64, u64, Option<u32>)> {
+    let weighting = Weighting::Table(table);
+    if case_fits(inst) && weighting.belongs(inst) {
+        let total = weighting.total(inst);
+        let least = weighting.least(inst);
+        Some((total, least, weighting.bound(inst)))
+    } else {
+        None
+    }
+}
+
+// The weight of a cell, where the table has it.
+fn weight(table: &WeightTable, x: u32, y: u32) -> Option<u32> {
+    if x < table.x_side() && y < table.y_side() {
+        Some(table.cell(x, y))
+    } else {
+        None
+    }
+}
+
+#[test]
+fn many_rounds(rt: HostRuntime) -> Result<(), Fail> {
+    let inst = Inst::new(5, 5, 3, 3).ok_or("sides")?;
+    let found = table(rt.alloc(), inst, MOST_ROUNDS)?.ok_or("table")?;
+    assert_eq!(rt; weight(&found, 1, 0), Some(1));
+    assert_eq!(rt; weight(&found, 3, 0), Some(0));
+    assert_eq!(rt; weight(&found, 2, 2), Some(5));
+    assert_eq!(rt; weight(&found, 2, 3), Some(0));
+    assert_eq!(rt; measures(inst, found), Some((9, 5, Some(1))));
+    Ok(())
+}
+
+#[test]
+fn eight_rounds(rt: HostRuntime) -> Result<(), Fail> {
+    let inst = Inst::new(5, 5, 3, 3).ok_or("sides")?;
+    let found = table(rt.alloc(), inst, 8)?.ok_or("table")?;
+    assert_eq!(rt; measures(inst, found), Some((7, 3, Some(2))));
+    Ok(())
+}
+
+#[test]
+fn four_rounds(rt: HostRuntime) -> Result<(), Fail> {
+    let inst = Inst::new(5, 5, 3, 3).ok_or("sides")?;
+    assert!(rt; table(rt.alloc(), inst, 4)?.is_none());
+    Ok(())
+}
+
+// The bound of the table that is found.
+fn bound_toward(alloc: Global, inst: Inst, target: u32) -> Result<Option<u32>, Memory> {
+    if case_fits(inst) && inst.l_side <= 200 && inst.w_side <= 200 {
+        match table_toward(alloc, inst, target)? {
+            Some(found) => match measures(inst, found) {
+                Some((_, _, bound)) => Ok(bound),
+                None => Ok(None),
+            },
+            None => Ok(None),
+        }
+    } else {
+        Ok(None)
+    }
+}
+
+#[test]
+fn smallest_open(rt: HostRuntime) -> Result<(), Fail> {
+    let inst = Inst::new(12, 11, 7, 2).ok_or("sides")?;
+    assert_eq!(rt; bound_toward(rt.alloc(), inst, 8)?, Some(8));
+    let inst = Inst::new(19, 12, 7, 2).ok_or("sides")?;
+    assert_eq!(rt; bound_toward(rt.alloc(), inst, 14)?, Some(14));
+    Ok(())
+}
