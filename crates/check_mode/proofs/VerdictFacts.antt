@@ -1,7 +1,6 @@
 -- Verdicts of the first entries, and their lines.
 use Rattle.std.proofs.Common.{◌≡◌, ℕ, zero, suc, ◌+◌, ◌≤◌, ◌<◌, List, [], ◌∷◌, ◌++◌, length, get_or, take, drop, Option, ap, refl, sym, subst, ◌∙◌, arith, append_assoc, eqb-true, eq-eqb}
 use Rattle.std.specs.Prelude.{Bool, true, false, ◌==◌, ◌||◌}
-use Rattle.std.specs.Io.KnownBytes.{Appends}
 use Rattle.std.proofs.Math.Bool.{or-false}
 use Rattle.std.proofs.Math.Seq.{take-append-add}
 use Rattle.std.proofs.lemmas.List.{append-nil, take-append-le, take_all, take_more, length-take, length-take-le, length-append}
@@ -112,11 +111,12 @@ begun-part es vs all true same first count =
     ([], ap (λ ws. verdicts_text es ws) whole ∙ sym (append-nil (verdicts_text es vs)))
 begun-part es vs all false same first count =
     let more = verdict_lines (drop (length vs) es) (drop (length vs) all) in
-    let parts : verdict_lines es all ≡ verdict_lines es vs ++ more = lines-parts (length vs) es all ∙ ap (λ ws. verdict_lines es ws ++ more) first in
-    (more ++ done_text (length es),
+    let parts : verdict_lines es all ≡ verdict_lines es vs ++ more = lines-parts (length vs) es all ∙ ap (λ ws. verdict_lines es ws ++ more) first in (
+      more ++ done_text (length es),
       ap (λ t. t ++ done_text (length es)) parts
-      ∙ append_assoc (verdict_lines es vs) more (done_text (length es))
-      ∙ ap (λ t. t ++ (more ++ done_text (length es))) (sym (append-nil (verdict_lines es vs))))
+          ∙ append_assoc (verdict_lines es vs) more (done_text (length es))
+          ∙ ap (λ t. t ++ (more ++ done_text (length es))) (sym (append-nil (verdict_lines es vs))),
+    )
 
 part-of : (a b : Option (List ℕ)) (text front : List ℕ) → IsPrefixOf text front → AppendsPart a b front → AppendsPart a b text
 part-of a b text front (rest, is) part = subst (AppendsPart a b) (sym is) (part-more a b front rest part)

@@ -1,6 +1,6 @@
 -- What the modes that read a report found in their source. A source that does not tell its bytes makes no demand here:
 -- the facts then speak of some bytes.
-use Rattle.std.specs.Prelude.{ℕ, ◌≤◌, ◌≡◌, List, length, Option, Some, None, ⊤}
+use Rattle.std.specs.Prelude.{ℕ, ◌≤◌, List, length, Option, Some, None, ⊤}
 use Rattle.texts.specs.Spelling.{FaultsAt}
 use Rattle.run_parts.specs.Codes.{WasRead}
 use Rattle.run_parts.specs.declared.codes.Code.{Code}

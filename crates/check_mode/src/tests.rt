@@ -6,19 +6,24 @@ use std::alloc::Global;
 use std::test::Fail;
 
 // A report of the first form: a layer of eight cases.
-static EIGHT: &[u8] = b"pallet-report 1\nentry 1\nid EUR-400\norder 1200 800 400 300 220 8000 1600 1000000 70 0 100\nreduced 12 8 4 3\ncount 8\nbound 8\nstatus optimal\ncert weighted\nweighting area\ntree .\nlayers 1\nlayer 1 same\n0 0 S\n300 0 S\n600 0 S\n900 0 S\n0 400 S\n300 400 S\n600 400 S\n900 400 S\nallowed 7\nstack 1 1 1 1 1 1 1\nend\ndone 1\n";
+static EIGHT: &[u8] =
+    b"pallet-report 1\nentry 1\nid EUR-400\norder 1200 800 400 300 220 8000 1600 1000000 70 0 100\nreduced 12 8 4 3\ncount 8\nbound 8\nstatus optimal\ncert weighted\nweighting area\ntree .\nlayers 1\nlayer 1 same\n0 0 S\n300 0 S\n600 0 S\n900 0 S\n0 400 S\n300 400 S\n600 400 S\n900 400 S\nallowed 7\nstack 1 1 1 1 1 1 1\nend\ndone 1\n";
 
 // The same in the form of today.
-static EIGHT_TODAY: &[u8] = b"pallet-report 2\nentry 1\nid EUR-400\norder 1200 800 400 300 220 8000 1600 1000000 70 0 100 0\nreduced 12 8 4 3\ncount 8\nbound 8\nstatus optimal\ncert weighted\nweighting area\ntree .\nlayers 1\nlayer 1 same\n0 0 S\n300 0 S\n600 0 S\n900 0 S\n0 400 S\n300 400 S\n600 400 S\n900 400 S\nallowed 7\nstack 1 1 1 1 1 1 1\nend\ndone 1\n";
+static EIGHT_TODAY: &[u8] =
+    b"pallet-report 2\nentry 1\nid EUR-400\norder 1200 800 400 300 220 8000 1600 1000000 70 0 100 0\nreduced 12 8 4 3\ncount 8\nbound 8\nstatus optimal\ncert weighted\nweighting area\ntree .\nlayers 1\nlayer 1 same\n0 0 S\n300 0 S\n600 0 S\n900 0 S\n0 400 S\n300 400 S\n600 400 S\n900 400 S\nallowed 7\nstack 1 1 1 1 1 1 1\nend\ndone 1\n";
 
 // A report of the first form: a layer of four cases, and a stack of it and its mirror.
-static FOUR: &[u8] = b"pallet-report 1\nentry 1\nid A\norder 5 5 3 2 1 10 2 1000 100 1 20\nreduced 5 5 3 2\ncount 4\nbound 4\nstatus optimal\ncert weighted\nweighting area\ntree .\nlayers 2\nlayer 1 same\n0 0 L\n3 0 S\n0 2 S\n2 3 L\nlayer 2 mirror-x\n0 0 S\n2 0 L\n3 2 S\n0 3 L\nallowed 2\nstack 1 2\nend\ndone 1\n";
+static FOUR: &[u8] =
+    b"pallet-report 1\nentry 1\nid A\norder 5 5 3 2 1 10 2 1000 100 1 20\nreduced 5 5 3 2\ncount 4\nbound 4\nstatus optimal\ncert weighted\nweighting area\ntree .\nlayers 2\nlayer 1 same\n0 0 L\n3 0 S\n0 2 S\n2 3 L\nlayer 2 mirror-x\n0 0 S\n2 0 L\n3 2 S\n0 3 L\nallowed 2\nstack 1 2\nend\ndone 1\n";
 
 // The same in the form of today.
-static FOUR_TODAY: &[u8] = b"pallet-report 2\nentry 1\nid A\norder 5 5 3 2 1 10 2 1000 100 1 20 0\nreduced 5 5 3 2\ncount 4\nbound 4\nstatus optimal\ncert weighted\nweighting area\ntree .\nlayers 2\nlayer 1 same\n0 0 L\n3 0 S\n0 2 S\n2 3 L\nlayer 2 mirror-x\n0 0 S\n2 0 L\n3 2 S\n0 3 L\nallowed 2\nstack 1 2\nend\ndone 1\n";
+static FOUR_TODAY: &[u8] =
+    b"pallet-report 2\nentry 1\nid A\norder 5 5 3 2 1 10 2 1000 100 1 20 0\nreduced 5 5 3 2\ncount 4\nbound 4\nstatus optimal\ncert weighted\nweighting area\ntree .\nlayers 2\nlayer 1 same\n0 0 L\n3 0 S\n0 2 S\n2 3 L\nlayer 2 mirror-x\n0 0 S\n2 0 L\n3 2 S\n0 3 L\nallowed 2\nstack 1 2\nend\ndone 1\n";
 
-// Two rows that were refused, and between them a plan that calls itself optimal and is not.
-static THREE: &[u8] = b"pallet-report 2\nentry 1\nrefused DoesNotFit\nend\nentry 2\nid B\norder 5 5 3 3 1 1 1 1 0 0 100 0\nreduced 1 1 1 1\ncount 1\nbound 2\nstatus optimal\ncert given-area\nlayers 1\nlayer 1 same\n0 0 L\nallowed 1\nstack 1\nend\nentry 3\nrefused BadId\nend\ndone 3\n";
+// Two rows that were refused, and between them a plan that lists its layer without the mirrored ones.
+static THREE: &[u8] =
+    b"pallet-report 2\nentry 1\nrefused DoesNotFit\nend\nentry 2\nid B\norder 5 5 3 3 1 1 1 1 0 0 100 0\nreduced 1 1 1 1\ncount 1\nbound 2\nstatus open\ncert given-area\nlayers 1\nlayer 1 same\n0 0 L\nallowed 1\nstack 1\nend\nentry 3\nrefused BadId\nend\ndone 3\n";
 
 fn source(alloc: Global, text: &[u8]) -> Result<MemSource, Fail> {
     Ok(MemSource::new(text.to_vec(alloc)?, 4096, Vec::new(alloc)))
@@ -33,11 +38,25 @@ fn sink(alloc: Global) -> Result<MemSink, Fail> {
 fn whole_reports(rt: HostRuntime) -> Result<(), Fail> {
     let alloc = rt.alloc();
     let mut written = sink(alloc)?;
-    let answer = check(&rt, alloc, &OpenGate, 1, &mut source(alloc, EIGHT)?, &mut written);
+    let answer = check(
+        &rt,
+        alloc,
+        &OpenGate,
+        1,
+        &mut source(alloc, EIGHT)?,
+        &mut written,
+    );
     assert!(rt; answer.code == Code::Done);
     assert!(rt; written.written() == b"entry 1 yes\ndone 1\n".as_slice());
     let mut written = sink(alloc)?;
-    let answer = check(&rt, alloc, &OpenGate, 2, &mut source(alloc, FOUR_TODAY)?, &mut written);
+    let answer = check(
+        &rt,
+        alloc,
+        &OpenGate,
+        2,
+        &mut source(alloc, FOUR_TODAY)?,
+        &mut written,
+    );
     assert!(rt; answer.code == Code::Done);
     assert!(rt; written.written() == b"entry 1 yes\ndone 1\n".as_slice());
     Ok(())
@@ -47,11 +66,18 @@ fn whole_reports(rt: HostRuntime) -> Result<(), Fail> {
 fn groups(rt: HostRuntime) -> Result<(), Fail> {
     let alloc = rt.alloc();
     let mut written = sink(alloc)?;
-    let answer = check(&rt, alloc, &OpenGate, 2, &mut source(alloc, THREE)?, &mut written);
+    let answer = check(
+        &rt,
+        alloc,
+        &OpenGate,
+        2,
+        &mut source(alloc, THREE)?,
+        &mut written,
+    );
     assert!(rt; answer.code == Code::Findings && answer.line == 0);
     assert!(rt;
         written.written()
-            == b"entry 1 refused\nentry 2 no status 0\nentry 3 refused\ndone 3\n".as_slice()
+            == b"entry 1 refused\nentry 2 no variants 2\nentry 3 refused\ndone 3\n".as_slice()
     );
     Ok(())
 }
@@ -61,16 +87,37 @@ fn no_reports(rt: HostRuntime) -> Result<(), Fail> {
     let alloc = rt.alloc();
     let mut written = sink(alloc)?;
     let text = b"pallet-report 3\n".as_slice();
-    let answer = check(&rt, alloc, &OpenGate, 1, &mut source(alloc, text)?, &mut written);
+    let answer = check(
+        &rt,
+        alloc,
+        &OpenGate,
+        1,
+        &mut source(alloc, text)?,
+        &mut written,
+    );
     assert!(rt; answer.code == Code::BadReport && answer.line == 1);
     let text = b"pallet-report 2\n".as_slice();
-    let answer = check(&rt, alloc, &OpenGate, 1, &mut source(alloc, text)?, &mut written);
+    let answer = check(
+        &rt,
+        alloc,
+        &OpenGate,
+        1,
+        &mut source(alloc, text)?,
+        &mut written,
+    );
     assert!(rt; answer.code == Code::BadReport && answer.line == 2);
     let answer = upgrade(alloc, &mut source(alloc, text)?, &mut written);
     assert!(rt; answer.code == Code::BadReport && answer.line == 2);
     assert!(rt; written.written().is_empty());
     let text = b"pallet-report 2\ndone 0\n".as_slice();
-    let answer = check(&rt, alloc, &OpenGate, 1, &mut source(alloc, text)?, &mut written);
+    let answer = check(
+        &rt,
+        alloc,
+        &OpenGate,
+        1,
+        &mut source(alloc, text)?,
+        &mut written,
+    );
     assert!(rt; answer.code == Code::Done);
     assert!(rt; written.written() == b"done 0\n".as_slice());
     Ok(())

@@ -65,7 +65,11 @@ pub fn upgrade<S: Source, K: Sink>(alloc: Global, source: &mut S, sink: &mut K) 
 }
 
 // Writes the report of the entries.
-fn write_report<K: Sink>(alloc: Global, entries: &mut Entries<'_>, sink: &mut K) -> Result<(), WriteStop>
+fn write_report<K: Sink>(
+    alloc: Global,
+    entries: &mut Entries<'_>,
+    sink: &mut K,
+) -> Result<(), WriteStop>
     requires { All (IsInRange Two) entries.old.entries }
     ensures ok { OnOk result (Appends (K.written sink.old) (K.written sink.new) (report_text Two entries.old.entries)) }
     ensures part { IsErrOf result WriteStop.Fault
@@ -107,7 +111,11 @@ fn last_line(alloc: Global, count: u32) -> Result<Vec<u8>, Memory>
 }
 
 // Writes the text of each entry.
-fn write_entries<K: Sink>(alloc: Global, entries: &mut Entries<'_>, sink: &mut K) -> Result<(), WriteStop>
+fn write_entries<K: Sink>(
+    alloc: Global,
+    entries: &mut Entries<'_>,
+    sink: &mut K,
+) -> Result<(), WriteStop>
     requires { All (IsInRange Two) entries.old.entries }
     ensures ok { OnOk result (Appends (K.written sink.old) (K.written sink.new) (entries_text Two entries.old.entries)) }
     ensures part { IsErrOf result WriteStop.Fault
@@ -125,7 +133,11 @@ fn write_entries<K: Sink>(alloc: Global, entries: &mut Entries<'_>, sink: &mut K
 }
 
 // Writes the text of the next entry.
-fn write_next<K: Sink>(alloc: Global, entries: &mut Entries<'_>, sink: &mut K) -> Result<(), WriteStop>
+fn write_next<K: Sink>(
+    alloc: Global,
+    entries: &mut Entries<'_>,
+    sink: &mut K,
+) -> Result<(), WriteStop>
     requires some { 0 < length entries.old.entries }
     requires ranges { All (IsInRange Two) entries.old.entries }
     ensures ok { OnOk result ((e : Entry) × (entries.old.entries ≡ e ∷ entries.new.entries)

@@ -12,7 +12,7 @@ state_after start (suc draws) = next_state (state_after start draws)
 
 -- what a state gives: its upper 31 bits, as a number below a bound
 unfoldable pub given_by : ℕ → ℕ → ℕ
-given_by state below = state / 2 ^ 33 % below
+given_by state below = (state / 2 ^ 33) % below
 
 -- the draw of this number, from 1: the state moves first, and then gives a number
 abbrev pub drawn : ℕ → ℕ → ℕ → ℕ

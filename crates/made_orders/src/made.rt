@@ -10,7 +10,7 @@ use plan_memory::Memory;
 use std::alloc::Global;
 use texts::put_named;
 
-const MOST_ROWS: u32 = 16;
+const ROW_COUNT: u32 = 16;
 
 /// The sixteen made orders of a number, as rows of an orders file. Each is accepted: no row is refused.
 #[tactic(auto, unfolding(crate::specs::Made::first_made_rows))]
@@ -23,7 +23,7 @@ pub fn made_rows(alloc: Global, number: u32) -> Result<Vec<Row>, Memory>
         state: u64::from(number),
     };
     let mut rows = Vec::new(alloc);
-    for place in 0..MOST_ROWS {
+    for place in 0..ROW_COUNT {
         let order = made_order(alloc, place + 1, &mut generator)?;
         rows.push(Row::Order(order))?;
     }

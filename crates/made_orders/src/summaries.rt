@@ -17,7 +17,7 @@ pub struct Summary {
     pub planned: u32,
     /// How many cases the planned layers have together.
     pub cases: u32,
-    /// How many plans have the greatest count.
+    /// How many plans have a count that is known to be the greatest.
     pub optimal: u32,
     /// How many plans have a stack.
     pub stacks: u32,

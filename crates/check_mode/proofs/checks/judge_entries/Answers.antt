@@ -1,4 +1,4 @@
-use Rattle.std.proofs.Common.{◌≡◌, ◌∙◌, ◌++◌, ℕ, List, [], ap, append_assoc, arith, refl, rules, sym, subst}
+use Rattle.std.proofs.Common.{◌∙◌, ◌++◌, List, [], ap, append_assoc, arith, refl, rules, sym, subst}
 use Rattle.std.specs.Prelude.{All, IsErrOf, ◌||◌}
 use Rattle.std.specs.Io.KnownBytes.{Appends}
 use Rattle.std.proofs.KnownBytes.{Appends-nil, Appends-trans}

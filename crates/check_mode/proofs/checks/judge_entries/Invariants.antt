@@ -12,8 +12,8 @@ use Rattle.check_mode.proofs.checks.judge_entries.Given as goal
 abbrev pub invariant-loop-alloc : goal.invariant-loop-alloc
 invariant-loop-alloc g l = record {
   judged : (before : List Entry) × (vs : List Verdict) × (l.initial.entries.entries ≡ before ++ l.entries.entries)
-    × AreVerdicts before vs × (any_no vs ≡ l.found)
-    × Appends (g.K.Sink.written l.initial.sink) (g.K.Sink.written l.sink) (verdict_lines before vs);
+      × AreVerdicts before vs × (any_no vs ≡ l.found)
+      × Appends (g.K.Sink.written l.initial.sink) (g.K.Sink.written l.sink) (verdict_lines before vs);
   later : g.K.Sink.faults l.initial.sink ≤ g.K.Sink.faults l.sink;
   ranges : All (IsInRange Two) l.entries.entries;
 }

@@ -1,4 +1,4 @@
-use Rattle.std.proofs.Common.{◌≡◌, ◌∙◌, ◌++◌, ◌≤◌, ℕ, List, length, take, ap, arith, rules, sym, subst}
+use Rattle.std.proofs.Common.{◌∙◌, ◌≤◌, ℕ, List, length, take, ap, rules, sym, subst}
 use Rattle.std.specs.Prelude.{All}
 use Rattle.std.specs.Io.KnownBytes.{Appends}
 use Rattle.cert_text.specs.declared.forms.Form.TheVariants.{Two}

@@ -1,4 +1,4 @@
-use Rattle.std.proofs.Common.{◌≡◌, ◌∙◌, ◌+◌, ◌++◌, ℕ, List, take, drop, get_or, ap, arith, rules, sym, subst}
+use Rattle.std.proofs.Common.{◌∙◌, ◌+◌, take, drop, get_or, ap, arith, rules, sym, subst}
 use Rattle.std.specs.Prelude.{IsErrOf, ◌||◌}
 use Rattle.std.specs.Io.KnownBytes.{Appends}
 use Rattle.std.proofs.KnownBytes.{Appends-trans}
@@ -6,7 +6,6 @@ use Rattle.std.proofs.lemmas.List.{take_more}
 use Rattle.run_parts.specs.declared.parts.WriteStop.TheVariants.{Fault}
 use Rattle.run_parts.specs.Written.{AppendsPart}
 use Rattle.run_parts.proofs.Pieces.{part-after, part-more}
-use Rattle.report_checker.specs.declared.verdicts.Verdict.{Verdict}
 use Rattle.report_checker.specs.declared.verdicts.Verdict.TheVariants.{Yes}
 use Rattle.check_mode.specs.Verdicts.{is_no, any_no, line_of, verdict_lines}
 use Rattle.check_mode.proofs.VerdictFacts.{no-next, line-more, lines-parts}

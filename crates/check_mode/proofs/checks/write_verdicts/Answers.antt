@@ -1,4 +1,4 @@
-use Rattle.std.proofs.Common.{ℕ, List, length, rules, sym, subst}
+use Rattle.std.proofs.Common.{length, rules, sym, subst}
 use Rattle.std.specs.Prelude.{IsErrOf}
 use Rattle.run_parts.specs.declared.parts.WriteStop.TheVariants.{Fault}
 use Rattle.run_parts.specs.Written.{AppendsPart}

@@ -10,7 +10,7 @@ use Rattle.check_mode.proofs.upgrades.write_entries.Given as goal
 abbrev pub invariant-loop-alloc : goal.invariant-loop-alloc
 invariant-loop-alloc g l = record {
   wrote : (before : List Entry) × (l.initial.entries.entries ≡ before ++ l.entries.entries)
-    × Appends (g.K.Sink.written l.initial.sink) (g.K.Sink.written l.sink) (entries_text Two before);
+      × Appends (g.K.Sink.written l.initial.sink) (g.K.Sink.written l.sink) (entries_text Two before);
   later : g.K.Sink.faults l.initial.sink ≤ g.K.Sink.faults l.sink;
   ranges : All (IsInRange Two) l.entries.entries;
 }

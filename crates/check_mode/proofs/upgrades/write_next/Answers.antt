@@ -1,4 +1,4 @@
-use Rattle.std.proofs.Common.{◌≡◌, ◌∷◌, ◌++◌, List, ℕ, ap, rules, sym, subst}
+use Rattle.std.proofs.Common.{◌≡◌, ◌∷◌, List, ap, rules, sym, subst}
 use Rattle.cert_text.specs.declared.forms.Form.TheVariants.{Two}
 use Rattle.plan_entries.specs.declared.entries.Entry.{Entry}
 use Rattle.run_parts.specs.Written.{AppendsPart}
