@@ -11,3 +11,5 @@ mod patterns;
 mod plans;
 #[cfg(test)]
 mod runs;
+#[cfg(test)]
+mod workers;

@@ -1,0 +1,125 @@
+use crate::runs::{file, ran};
+use pallet_top::{Code, Gate, run_gated};
+use plan_io::{MemSink, MemSource};
+use std::alloc::Global;
+use std::sync::atomic::{AtomicBool, Ordering};
+use std::test::Fail;
+use std::thread::Threads;
+
+// A report of a plan and of a refused row.
+const TWO_ENTRIES: &str =
+    "pallet-report 2\nentry 1\nid A\norder 2 2 2 2 1 1 1 1 0 0 100 0\nreduced 1 1 1 1\ncount 1\nbound 1\nstatus optimal\ncert given-area\nlayers 1\nlayer 1 same\n0 0 L\nallowed 1\nstack 1\nend\nentry 2\nrefused DoesNotFit\nend\ndone 2\n";
+
+// How often the first entry looks for the second.
+const TURNS: u32 = 100_000_000;
+
+// What the gate has seen: that the second entry came, and that the first one saw it come.
+#[derive(Drop)]
+struct Meeting {
+    came: AtomicBool,
+    met: AtomicBool,
+}
+
+impl Meeting {
+    fn new() -> Meeting {
+        Meeting {
+            came: AtomicBool::new(false),
+            met: AtomicBool::new(false),
+        }
+    }
+
+    // Whether the second entry comes within the turns.
+    fn comes(&self) -> bool {
+        for _turn in 0..TURNS {
+            if self.came.load(Ordering::SeqCst) {
+                return true;
+            }
+        }
+        false
+    }
+}
+
+impl Gate for Meeting {
+    fn enter(&self, place: u32) {
+        if place == 2 {
+            self.came.store(true, Ordering::SeqCst);
+        }
+        if place == 1 && self.comes() {
+            self.met.store(true, Ordering::SeqCst);
+        }
+    }
+}
+
+// Whether the two entries are in judgement at the same time.
+fn meet<R: Threads + Sync>(rt: &R, alloc: Global, workers: &str) -> Result<bool, Fail> {
+    let mut words = Vec::new(alloc);
+    for word in ["check", "--workers", workers] {
+        words.push(String::from_str(alloc, word)?)?;
+    }
+    let text = TWO_ENTRIES.as_bytes().to_vec(alloc)?;
+    let mut source = MemSource::new(text, 4096, Vec::new(alloc));
+    let mut sink = MemSink::new(alloc, 4096, 4096, Vec::new(alloc))?;
+    let gate = Meeting::new();
+    let answer = run_gated(rt, alloc, &gate, &words, &mut source, &mut sink);
+    if answer.code != Code::Done {
+        return Err("not done".into());
+    }
+    Ok(gate.met.load(Ordering::SeqCst))
+}
+
+// Two workers judge two entries at once; one worker does not.
+#[test]
+fn side_by_side(rt: HostRuntime) -> Result<(), Fail> {
+    assert!(rt; meet(&rt, rt.alloc(), "2")?);
+    assert!(rt; !meet(&rt, rt.alloc(), "1")?);
+    Ok(())
+}
+
+// The verdicts are the same for any number of workers.
+#[test]
+fn same_verdicts(rt: HostRuntime) -> Result<(), Fail> {
+    for words in [
+        "check",
+        "check --workers 1",
+        "check --workers 2",
+        "check --workers 16",
+    ] {
+        let answer = ran(&rt, rt.alloc(), words, TWO_ENTRIES.as_bytes())?;
+        assert!(rt; answer.code == Code::Done);
+        assert!(rt;
+            answer.written.as_slice() == b"entry 1 yes\nentry 2 refused\ndone 2\n".as_slice()
+        );
+    }
+    Ok(())
+}
+
+// A thousand cases; and an order for which no pattern of blocks reaches the bound, whose plan is accepted.
+#[test]
+fn planned_and_accepted(rt: HostRuntime) -> Result<(), Fail> {
+    let alloc = rt.alloc();
+    let many = ran(
+        &rt,
+        alloc,
+        "plan",
+        &file(alloc, "\nA,40,25,1,1,1,1,1,1,0,0,100")?,
+    )?;
+    let Ok(text) = str::from_utf8(&many.written) else {
+        return Err("no text".into());
+    };
+    assert!(rt; text.contains("\ncount 1000\nbound 1000\nstatus optimal\n"));
+    let hard = ran(
+        &rt,
+        alloc,
+        "plan",
+        &file(alloc, "\nA,43,26,7,3,1,1,1,1,0,0,100")?,
+    )?;
+    let Ok(text) = str::from_utf8(&hard.written) else {
+        return Err("no text".into());
+    };
+    assert!(rt; text.contains("\nreduced 43 26 7 3\n"));
+    for report in [&many.written, &hard.written] {
+        let answer = ran(&rt, alloc, "check", report)?;
+        assert!(rt; answer.written.as_slice() == b"entry 1 yes\ndone 1\n".as_slice());
+    }
+    Ok(())
+}
