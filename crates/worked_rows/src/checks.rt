@@ -76,29 +76,57 @@ fn tables(rt: HostRuntime) -> Result<(), Fail> {
 #[test]
 fn verdicts(rt: HostRuntime) -> Result<(), Fail> {
     let changes = [
-        ("status optimal", "status open", "no status 0"),
-        ("stack 1 2", "stack 1 1", "no stack 0"),
-        ("stack 1 2", "stack 1", "no stack 0"),
-        ("3 0 S\n0 2 S", "2 0 S\n0 2 S", "no layout 1"),
-        ("3 2 S\n0 3 L", "2 2 S\n0 3 L", "no layout 2"),
+        (
+            "status optimal",
+            "status open",
+            "entry 1 no status 0\ndone 1\n",
+        ),
+        ("stack 1 2", "stack 1 1", "entry 1 no stack 0\ndone 1\n"),
+        ("stack 1 2", "stack 1", "entry 1 no stack 0\ndone 1\n"),
+        (
+            "3 0 S\n0 2 S",
+            "2 0 S\n0 2 S",
+            "entry 1 no layout 1\ndone 1\n",
+        ),
+        (
+            "3 2 S\n0 3 L",
+            "2 2 S\n0 3 L",
+            "entry 1 no layout 2\ndone 1\n",
+        ),
         (
             "bound 4\nstatus optimal",
             "bound 3\nstatus open",
-            "no bound 0",
+            "entry 1 no bound 0\ndone 1\n",
         ),
-        ("bound 4\nstatus optimal", "bound 5\nstatus open", "yes"),
-        ("allowed 2", "allowed 3", "no allowed 0"),
+        (
+            "bound 4\nstatus optimal",
+            "bound 5\nstatus open",
+            "entry 1 yes\ndone 1\n",
+        ),
+        ("allowed 2", "allowed 3", "entry 1 no allowed 0\ndone 1\n"),
         (
             "layers 2\nlayer 1 same\n0 0 L\n3 0 S\n0 2 S\n2 3 L\nlayer 2 mirror-x\n0 0 S\n2 0 L\n3 2 S\n0 3 L\nallowed 2\nstack 1 2",
             "layers 1\nlayer 1 same\n0 0 L\n3 0 S\n0 2 S\n2 3 L\nallowed 2\nstack 1 1",
-            "no variants 2",
+            "entry 1 no variants 2\ndone 1\n",
         ),
-        ("layer 2 mirror-x", "layer 2 mirror-y", "no variants 2"),
-        ("reduced 5 5 3 2", "reduced 10 10 6 4", "yes"),
-        ("reduced 5 5 3 2", "reduced 5 4 3 2", "no reduced 0"),
-        ("tree .", "tree B...", "yes"),
-        ("tree .", "tree B....", "no bound 0"),
-        ("tree .", "tree B..", "no bound 0"),
+        (
+            "layer 2 mirror-x",
+            "layer 2 mirror-y",
+            "entry 1 no variants 2\ndone 1\n",
+        ),
+        (
+            "reduced 5 5 3 2",
+            "reduced 10 10 6 4",
+            "entry 1 yes\ndone 1\n",
+        ),
+        (
+            "reduced 5 5 3 2",
+            "reduced 5 4 3 2",
+            "entry 1 no reduced 0\ndone 1\n",
+        ),
+        ("tree .", "tree B...", "entry 1 yes\ndone 1\n"),
+        ("tree .", "tree B....", "entry 1 no bound 0\ndone 1\n"),
+        ("tree .", "tree B..", "entry 1 no bound 0\ndone 1\n"),
     ];
     for (part, other, verdict) in changes {
         let alloc = rt.alloc();
@@ -110,7 +138,7 @@ fn verdicts(rt: HostRuntime) -> Result<(), Fail> {
         )?;
         let wanted = format!(in alloc; "entry 1 {verdict}\ndone 1\n")?;
         assert!(rt; ran.written.as_slice() == wanted.as_bytes());
-        assert!(rt; (ran.code == Code::Done) == (verdict == "yes"));
+        assert!(rt; (ran.code == Code::Done) == (verdict == "entry 1 yes\ndone 1\n"));
     }
     Ok(())
 }
@@ -156,7 +184,7 @@ fn prefixes(rt: HostRuntime) -> Result<(), Fail> {
         let ran = ran(&rt, rt.alloc(), "check", text)?;
         assert!(rt; ran.code == Code::BadReport && ran.line == whole && ran.written.is_empty());
         if byte == b'\n' {
-            whole += 1;
+            whole = whole.saturating_add(1);
         }
     }
     assert_eq!(rt; whole, 27);
