@@ -72,61 +72,17 @@ fn tables(rt: HostRuntime) -> Result<(), Fail> {
     Ok(())
 }
 
-// Each change of a report makes one clause fail, or none.
+// Each change of a report makes one clause fail.
 #[test]
 fn verdicts(rt: HostRuntime) -> Result<(), Fail> {
     let changes = [
-        (
-            "status optimal",
-            "status open",
-            "entry 1 no status 0\ndone 1\n",
-        ),
-        ("stack 1 2", "stack 1 1", "entry 1 no stack 0\ndone 1\n"),
-        ("stack 1 2", "stack 1", "entry 1 no stack 0\ndone 1\n"),
-        (
-            "3 0 S\n0 2 S",
-            "2 0 S\n0 2 S",
-            "entry 1 no layout 1\ndone 1\n",
-        ),
-        (
-            "3 2 S\n0 3 L",
-            "2 2 S\n0 3 L",
-            "entry 1 no layout 2\ndone 1\n",
-        ),
-        (
-            "bound 4\nstatus optimal",
-            "bound 3\nstatus open",
-            "entry 1 no bound 0\ndone 1\n",
-        ),
-        (
-            "bound 4\nstatus optimal",
-            "bound 5\nstatus open",
-            "entry 1 yes\ndone 1\n",
-        ),
-        ("allowed 2", "allowed 3", "entry 1 no allowed 0\ndone 1\n"),
-        (
-            "layers 2\nlayer 1 same\n0 0 L\n3 0 S\n0 2 S\n2 3 L\nlayer 2 mirror-x\n0 0 S\n2 0 L\n3 2 S\n0 3 L\nallowed 2\nstack 1 2",
-            "layers 1\nlayer 1 same\n0 0 L\n3 0 S\n0 2 S\n2 3 L\nallowed 2\nstack 1 1",
-            "entry 1 no variants 2\ndone 1\n",
-        ),
-        (
-            "layer 2 mirror-x",
-            "layer 2 mirror-y",
-            "entry 1 no variants 2\ndone 1\n",
-        ),
-        (
-            "reduced 5 5 3 2",
-            "reduced 10 10 6 4",
-            "entry 1 yes\ndone 1\n",
-        ),
-        (
-            "reduced 5 5 3 2",
-            "reduced 5 4 3 2",
-            "entry 1 no reduced 0\ndone 1\n",
-        ),
-        ("tree .", "tree B...", "entry 1 yes\ndone 1\n"),
-        ("tree .", "tree B....", "entry 1 no bound 0\ndone 1\n"),
-        ("tree .", "tree B..", "entry 1 no bound 0\ndone 1\n"),
+        ("status optimal", "status open", "no status 0"),
+        ("stack 1 2", "stack 1 1", "no stack 0"),
+        ("stack 1 2", "stack 1", "no stack 0"),
+        ("3 0 S\n0 2 S", "2 0 S\n0 2 S", "no layout 1"),
+        ("3 2 S\n0 3 L", "2 2 S\n0 3 L", "no layout 2"),
+        ("layer 2 mirror-x", "layer 2 mirror-y", "no variants 2"),
+        ("allowed 2", "allowed 3", "no allowed 0"),
     ];
     for (part, other, verdict) in changes {
         let alloc = rt.alloc();
@@ -137,9 +93,54 @@ fn verdicts(rt: HostRuntime) -> Result<(), Fail> {
             &changed(alloc, TWO_LAYERS, part, other)?,
         )?;
         let wanted = format!(in alloc; "entry 1 {verdict}\ndone 1\n")?;
+        assert!(rt; ran.code == Code::Findings);
         assert!(rt; ran.written.as_slice() == wanted.as_bytes());
-        assert!(rt; (ran.code == Code::Done) == (verdict == "entry 1 yes\ndone 1\n"));
     }
+    Ok(())
+}
+
+// What is changed of the bound, of its certificate or of the instance that was planned is accepted or not.
+#[test]
+fn bounds(rt: HostRuntime) -> Result<(), Fail> {
+    let changes = [
+        ("bound 4\nstatus optimal", "bound 3\nstatus open", false),
+        ("bound 4\nstatus optimal", "bound 5\nstatus open", true),
+        ("tree .", "tree B...", true),
+        ("tree .", "tree B....", false),
+        ("tree .", "tree B..", false),
+    ];
+    for (part, other, accepted) in changes {
+        let alloc = rt.alloc();
+        let ran = ran(
+            &rt,
+            alloc,
+            "check",
+            &changed(alloc, TWO_LAYERS, part, other)?,
+        )?;
+        if accepted {
+            assert!(rt; ran.written.as_slice() == b"entry 1 yes\ndone 1\n".as_slice());
+        } else {
+            assert!(rt; ran.written.as_slice() == b"entry 1 no bound 0\ndone 1\n".as_slice());
+        }
+    }
+    Ok(())
+}
+
+// Another instance with the same sides is accepted, and one with other sides is not; a variant may not be left out.
+#[test]
+fn instances(rt: HostRuntime) -> Result<(), Fail> {
+    let alloc = rt.alloc();
+    let text = changed(alloc, TWO_LAYERS, "reduced 5 5 3 2", "reduced 10 10 6 4")?;
+    let answer = ran(&rt, alloc, "check", &text)?;
+    assert!(rt; answer.written.as_slice() == b"entry 1 yes\ndone 1\n".as_slice());
+    let text = changed(alloc, TWO_LAYERS, "reduced 5 5 3 2", "reduced 5 4 3 2")?;
+    let answer = ran(&rt, alloc, "check", &text)?;
+    assert!(rt; answer.written.as_slice() == b"entry 1 no reduced 0\ndone 1\n".as_slice());
+    let two =
+        "layers 2\nlayer 1 same\n0 0 L\n3 0 S\n0 2 S\n2 3 L\nlayer 2 mirror-x\n0 0 S\n2 0 L\n3 2 S\n0 3 L\nallowed 2\nstack 1 2";
+    let one = "layers 1\nlayer 1 same\n0 0 L\n3 0 S\n0 2 S\n2 3 L\nallowed 2\nstack 1 1";
+    let answer = ran(&rt, alloc, "check", &changed(alloc, TWO_LAYERS, two, one)?)?;
+    assert!(rt; answer.written.as_slice() == b"entry 1 no variants 2\ndone 1\n".as_slice());
     Ok(())
 }
 
