@@ -42,7 +42,7 @@ lead-family I g b l w h n m k =
 -- ---- marks
 
 -- one leaf refutes more cases than the weights allow
-leaf-refutes : (I : Inst) (g : ℕ → ℕ → ℕ) (n : ℕ) (w : IsWeightBound I g n) → Refutes I g w.least n (Leaf ∷ [])
+pub leaf-refutes : (I : Inst) (g : ℕ → ℕ → ℕ) (n : ℕ) (w : IsWeightBound I g n) → Refutes I g w.least n (Leaf ∷ [])
 leaf-refutes I g n w = (leaf, tt) where
   leaf : 0 + above I g (start I) / w.least ≤ n
   leaf = let e : total_weight g I / w.least ≤ n = omega (arith, w.value) in

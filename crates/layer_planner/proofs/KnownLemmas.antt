@@ -16,7 +16,7 @@ use Rattle.strip_cuts.specs.Cuts.{AcceptsStrip}
 use Rattle.strip_bound.specs.CutLists.{IsStripOf}
 use Rattle.layer_patterns.specs.Patterns.{HoldsPatterns}
 use Rattle.layer_planner.specs.declared.bounds.Known.{Known}
-use Rattle.layer_planner.specs.Quality.{most_states, IsAtMostFamily, IsAtMostStrip, HasLongWalk}
+use Rattle.layer_planner.specs.Quality.{most_states, IsAtMostFamily, IsAtMostStrip, IsAtMostDual, HasLongWalk}
 use Rattle.layer_planner.specs.Searched.{IsGrown, IsTooLong}
 use Rattle.layer_planner.specs.Known.{IsKnown, IsSettled}
 use Rattle.block_tree.specs.Trees.{uniform}
@@ -81,8 +81,22 @@ pub record AreKnown (given reduced : Inst) (k : Known) (start : ℕ) : Type 0 wh
   pub known : IsKnown given reduced k
   pub family : IsAtMostFamily reduced k.bound
   pub strip : IsAtMostStrip reduced k.bound
+  pub dual : IsAtMostDual reduced k.bound
   pub area : k.bound ≤ area_bound_of given
   pub patterns : HoldsPatterns reduced start
+
+-- what is known beforehand, and a lesser bound in its place
+pub still-known : (given reduced : Inst) (k l : Known) (start : ℕ) → CaseFits reduced → IsAtMostFamily reduced k.bound → IsAtMostStrip reduced k.bound → k.bound ≤ area_bound_of given → IsKnown given reduced l → l.bound ≤ k.bound → IsAtMostDual reduced l.bound → HoldsPatterns reduced start
+    → AreKnown given reduced l start
+still-known given reduced k l start fits family strip area known less dual patterns = record {
+  fits = fits;
+  known = known;
+  family = λ h m x y. let f = family h m x y in omega (arith, f, less);
+  strip = λ m x. let f = strip m x in omega (arith, f, less);
+  dual = dual;
+  area = omega (arith, area, less);
+  patterns = patterns;
+}
 
 settled : (given reduced : Inst) (k : Known) (start : ℕ) (layer : Placed) → AreKnown given reduced k start → IsGrown reduced start k.bound layer → (length layer.spots ≡ k.bound) ⊎ HasLongWalk reduced (length layer.spots) most_states
     → IsSettled given reduced (record { layer = layer; known = k })
@@ -96,6 +110,7 @@ settled given reduced k start layer a g d =
       known = a.known;
       family = a.family;
       strip = a.strip;
+      dual = a.dual;
       area = a.area;
       patterns = p;
       decided = d;
@@ -122,6 +137,7 @@ refuted-settled given reduced k start layer g marks n a l w r few e =
       known = refuted-known given reduced g marks n a.known.accepted.same l q few;
       family = λ h m x y. let f = a.family h m x y in omega (arith, e, f, w.within);
       strip = λ m x. let f = a.strip m x in omega (arith, e, f, w.within);
+      dual = λ t m few d x. let f = a.dual t m few d x in omega (arith, e, f, w.within);
       area = omega (arith, e, a.area, w.within);
       patterns = a.patterns;
     })

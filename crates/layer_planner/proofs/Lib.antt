@@ -2,6 +2,7 @@ pub mod StripLemmas
 pub mod CertLemmas
 pub mod SideLemmas
 pub mod WalkLemmas
+pub mod TableLemmas
 pub mod KnownLemmas
 pub mod RangeLemmas
 pub mod ListLemmas

@@ -78,6 +78,7 @@ plan-quality number o given reduced count status s l p =
       reduced = p.is_reduced;
       family = t.family;
       strip = t.strip;
+      dual = t.dual;
       area = t.area;
       patterns = subst (λ n. HoldsPatterns reduced n) (sym p.counted) t.patterns;
       still_open = λ o. elim d [ inl e ↦ absurd (apart (sym (p.tells.1 e) ∙ o)) | inr w ↦ w ];

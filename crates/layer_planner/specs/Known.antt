@@ -9,7 +9,7 @@ use Rattle.cert_text.specs.Ranges.{InRange}
 use Rattle.layer_patterns.specs.Patterns.{HoldsPatterns}
 use Rattle.layer_planner.specs.declared.bounds.Known.{Known}
 use Rattle.layer_planner.specs.declared.settling.Settled.{Settled}
-use Rattle.layer_planner.specs.Quality.{most_states, IsAtMostFamily, IsAtMostStrip, HasLongWalk, HasShortCert}
+use Rattle.layer_planner.specs.Quality.{most_states, IsAtMostFamily, IsAtMostStrip, IsAtMostDual, HasLongWalk, HasShortCert}
 
 -- the certificate shows the bound, is not long, and, where the bound has a text, has one
 pub record IsKnown (given reduced : Inst) (known : Known) : Type 0 where
@@ -17,7 +17,7 @@ pub record IsKnown (given reduced : Inst) (known : Known) : Type 0 where
   pub short : HasShortCert reduced known.cert
   pub in_range : known.bound ≤ 1000 → InRange Two known.cert
 
--- A layer of the reduced instance, and a bound with what shows it: the bound is at most each that is known beforehand,
+-- A layer of the reduced instance, and a bound with what shows it: the bound is at most each that is looked for,
 -- the layer has at least the cases of each pattern, and no walk for one case more is left to be gone.
 pub record IsSettled (given reduced : Inst) (s : Settled) : Type 0 where
   pub inst : s.layer.inst ≡ reduced
@@ -27,6 +27,7 @@ pub record IsSettled (given reduced : Inst) (s : Settled) : Type 0 where
   pub known : IsKnown given reduced s.known
   pub family : IsAtMostFamily reduced s.known.bound
   pub strip : IsAtMostStrip reduced s.known.bound
+  pub dual : IsAtMostDual reduced s.known.bound
   pub area : s.known.bound ≤ area_bound_of given
   pub patterns : HoldsPatterns reduced (length s.layer.spots)
   pub decided : (length s.layer.spots ≡ s.known.bound) ⊎ HasLongWalk reduced (length s.layer.spots) most_states

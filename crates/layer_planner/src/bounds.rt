@@ -1,5 +1,5 @@
 // What bounds the layouts of an order before any is looked for.
-ghost use Rattle.std.specs.Prelude.{◌≡◌, ◌≤◌, IfOk, length};
+ghost use Rattle.std.specs.Prelude.{◌≡◌, ◌≤◌, ◌∷◌, [], IfOk, length};
 ghost use Rattle.plan_geometry.specs.Layout.{CaseFits, area_bound_of};
 ghost use Rattle.partitions.specs.Partitions.{SameSides};
 ghost use Rattle.weightings.specs.Lead.{IsLead};
@@ -21,6 +21,19 @@ pub struct Known {
     pub cert: Cert,
 }
 
+/// A bound that a weighting shows with no branch.
+pub fn by_weights(alloc: Global, bound: u32, weighting: Weighting) -> Result<Known, Memory>
+    ensures { IfOk result (λ k. k ≡ record { bound = bound; cert = Cert.Weighted weighting (Mark.Leaf ∷ []) }) }
+{
+    let mut tree = Vec::new(alloc);
+    tree.push(Mark::Leaf)?;
+    let tree = Marks::new(tree);
+    Ok(Known {
+        bound,
+        cert: Cert::Weighted { weighting, tree },
+    })
+}
+
 // The bound of the lead, which its weights show with no branch.
 fn by_lead(alloc: Global, given: Inst, reduced: Inst, lead: &Weighting) -> Result<Known, Memory>
     requires same { SameSides given reduced }
@@ -34,13 +47,7 @@ fn by_lead(alloc: Global, given: Inst, reduced: Inst, lead: &Weighting) -> Resul
         None => unreachable!(),
     };
     let weighting = lead.copied(alloc)?;
-    let mut tree = Vec::new(alloc);
-    tree.push(Mark::Leaf)?;
-    let tree = Marks::new(tree);
-    Ok(Known {
-        bound,
-        cert: Cert::Weighted { weighting, tree },
-    })
+    by_weights(alloc, bound, weighting)
 }
 
 // The bound so far, or that of the strips where it is less.

@@ -6,6 +6,7 @@ mod listing;
 mod planning;
 mod search;
 mod settling;
+mod tables;
 
 pub use planning::plan_order;
 

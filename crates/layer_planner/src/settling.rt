@@ -6,6 +6,7 @@ ghost use Rattle.layer_planner.specs.Known.{IsSettled};
 
 use crate::bounds::{Known, least_known};
 use crate::search::{Searched, search};
+use crate::tables::or_tables;
 use layer_patterns::layer_by_patterns;
 use plan_geometry::{Inst, Layer};
 use plan_memory::Memory;
@@ -20,7 +21,7 @@ pub struct Settled {
 }
 
 /// The layer of the best pattern, and then of the search, and the least bound: that of the search where it ends, else the
-/// least that is known beforehand.
+/// least that is known beforehand or that a table shows.
 pub fn settle(alloc: Global, given: Inst, reduced: Inst) -> Result<Settled, Memory>
     requires same { SameSides given reduced }
     requires fits { CaseFits reduced }
@@ -31,6 +32,7 @@ pub fn settle(alloc: Global, given: Inst, reduced: Inst) -> Result<Settled, Memo
     let lead = lead(reduced);
     let known = least_known(alloc, given, reduced, &lead)?;
     let layer = layer_by_patterns(alloc, reduced, known.bound)?;
+    let known = or_tables(alloc, given, reduced, known, &layer)?;
     let found = search(alloc, reduced, &lead, known.bound, layer)?;
     match found {
         Searched::Reached { layer } => Ok(Settled { layer, known }),

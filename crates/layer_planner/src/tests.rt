@@ -1,12 +1,15 @@
 use crate::plan_order;
+use crate::search::{Searched, search};
+use layer_patterns::layer_by_patterns;
 use layer_symmetry::Move;
+use minimum_size::reduce;
 use order_reader::Order;
 use plan_entries::{Plan, Status};
-use plan_geometry::{Spot, Way};
+use plan_geometry::{Inst, Spot, Way, area_bound, case_fits};
 use stack_builder::StackAnswer;
 use std::alloc::Global;
 use std::test::Fail;
-use weightings::{Cert, Weighting};
+use weightings::{Cert, Weighting, lead};
 
 // The plan of an order with this pallet and case.
 fn planned(
@@ -57,6 +60,17 @@ fn is_colour(plan: &Plan, side: u32, rest: u32) -> bool {
     }
 }
 
+// Whether the certificate is by a table.
+fn is_table(plan: &Plan) -> bool {
+    match plan.cert {
+        Cert::Weighted { ref weighting, .. } => match *weighting {
+            Weighting::Table(_) => true,
+            Weighting::Area | Weighting::Colour { .. } | Weighting::Comb { .. } => false,
+        },
+        Cert::Strip(_) | Cert::GivenArea => false,
+    }
+}
+
 // Whether the stack is this list.
 fn is_stack(plan: &Plan, expected: &[u32]) -> bool {
     match plan.stack {
@@ -99,7 +113,22 @@ fn own_places(rt: HostRuntime) -> Result<(), Fail> {
     Ok(())
 }
 
-// By the lead, by the strips, and by a search that refutes one case more.
+// How a search for one case more than the patterns of blocks reach ends.
+fn searched(alloc: Global, sides: [u32; 4]) -> Result<Searched, Fail> {
+    let given = Inst::new(sides[0], sides[1], sides[2], sides[3]).ok_or("sides")?;
+    let inst = reduce(given);
+    let most = area_bound(inst);
+    if most > 999 || !case_fits(inst) {
+        return Err("no layer".into());
+    }
+    let layer = layer_by_patterns(alloc, inst, most)?;
+    let lead = lead(inst);
+    let more = layer.count() + 1;
+    let answer = search(alloc, inst, &lead, more, layer)?;
+    Ok(answer)
+}
+
+// By the lead, and by the strips.
 #[test]
 fn certificates(rt: HostRuntime) -> Result<(), Fail> {
     let plan = planned(rt.alloc(), 6, 6, 4, 1)?;
@@ -107,17 +136,52 @@ fn certificates(rt: HostRuntime) -> Result<(), Fail> {
     assert!(rt; is_colour(&plan, 4, 3) && marks_of(&plan) == 1);
     let plan = planned(rt.alloc(), 9, 8, 5, 2)?;
     assert_eq!(rt; (plan.count, plan.bound, cuts_of(&plan)), (6, 6, 8));
-    let plan = planned(rt.alloc(), 14, 13, 5, 3)?;
-    assert_eq!(rt; (plan.count, plan.bound, marks_of(&plan)), (11, 11, 300));
-    assert!(rt; plan.status == Status::Optimal);
+    Ok(())
+}
+
+// Where neither the lead nor the strips show that no layer has more cases, a table does.
+#[test]
+fn tables(rt: HostRuntime) -> Result<(), Fail> {
+    let orders = [
+        ([12, 11, 7, 2], 8),
+        ([19, 12, 7, 2], 14),
+        ([47, 27, 10, 3], 40),
+        ([54, 37, 10, 3], 65),
+    ];
+    for ([pallet_x, pallet_y, case_x, case_y], count) in orders {
+        let plan = planned(rt.alloc(), pallet_x, pallet_y, case_x, case_y)?;
+        assert_eq!(rt; (plan.count, plan.bound), (count, count));
+        assert!(rt; plan.status == Status::Optimal);
+        assert!(rt; is_table(&plan) && marks_of(&plan) == 1);
+    }
+    Ok(())
+}
+
+// Searches that refute one case more, by their numbers of marks.
+#[test]
+fn refuted(rt: HostRuntime) -> Result<(), Fail> {
+    let searches = [
+        ([14, 13, 5, 3], 11, 300),
+        ([12, 11, 7, 2], 8, 631),
+        ([14, 13, 4, 3], 14, 3_418),
+        ([15, 14, 9, 2], 10, 13_501),
+    ];
+    for (sides, count, marks) in searches {
+        let Searched::Refuted { layer, tree } = searched(rt.alloc(), sides)? else {
+            return Err("not refuted".into());
+        };
+        assert_eq!(rt; layer.count(), count);
+        assert_eq!(rt; tree.as_slice().len(), marks);
+    }
     Ok(())
 }
 
 // Where one case more is neither found nor refuted within the states that are visited.
 #[test]
-fn stays_open(rt: HostRuntime) -> Result<(), Fail> {
-    let plan = planned(rt.alloc(), 19, 12, 7, 2)?;
-    assert_eq!(rt; (plan.count, plan.bound, cuts_of(&plan)), (14, 15, 17));
-    assert!(rt; plan.status == Status::StillOpen);
+fn spent(rt: HostRuntime) -> Result<(), Fail> {
+    let Searched::Spent { layer } = searched(rt.alloc(), [19, 12, 7, 2])? else {
+        return Err("not spent".into());
+    };
+    assert_eq!(rt; layer.count(), 14);
     Ok(())
 }

@@ -1,0 +1,79 @@
+-- Tables: what makes one accepted, that it has a text, and how its bound stands to those of layers and of other tables.
+use Rattle.std.proofs.Common.{◌≡◌, ℕ, Bool, true, ◌+◌, ◌*◌, ◌/◌, ◌≤◌, ◌∷◌, [], ◌∙◌, length, ap, sym, subst, refl, leb, eq-eqb, arith, inl, inr}
+use Rattle.std.specs.Prelude.{◌&&◌, Some, MatchOption}
+use Rattle.std.specs.List.{list_all}
+use Rattle.std.proofs.Math.Nat.{mul_comm}
+use Rattle.std.proofs.lemmas.Bool.{le-leb}
+use Rattle.std.proofs.lemmas.List.Sums.{list_all-from_AllPass}
+use Rattle.plan_geometry.specs.declared.spots.Spot.{Spot}
+use Rattle.plan_geometry.specs.declared.instances.Inst.{Inst}
+use Rattle.plan_geometry.specs.Layout.{IsLayout, IsBounded}
+use Rattle.plan_geometry.specs.Weight.{total_weight}
+use Rattle.plan_geometry.proofs.Counting.{bounded_by_weight}
+use Rattle.partitions.specs.Partitions.{SameSides}
+use Rattle.weightings.specs.declared.kinds.Weighting.TheVariants.{Table}
+use Rattle.weightings.specs.declared.certs.Mark.TheVariants.{Leaf}
+use Rattle.weightings.specs.declared.certs.Cert.TheVariants as certs
+use Rattle.weightings.specs.Table.{CellTable, cell_of, IsCellTable}
+use Rattle.weightings.specs.Weighting.{IsWeightBound}
+use Rattle.weightings.proofs.LeadSteps.{IsWeightBound-unique}
+use Rattle.dual_search.specs.Dual.{IsDual}
+use Rattle.dual_search.proofs.OneDual.{one_dual}
+use Rattle.cert_text.specs.declared.forms.Form.TheVariants.{Two}
+use Rattle.cert_text.specs.Ranges.{are_sides, are_weights, is_weighting, is_tree}
+use Rattle.layer_planner.specs.declared.bounds.Known.{Known}
+use Rattle.layer_planner.specs.Quality.{IsAtMostDual}
+use Rattle.layer_planner.specs.Known.{IsKnown}
+use Rattle.layer_planner.proofs.CertLemmas.{both, leaf-refutes}
+
+-- ---- a table as a certificate
+
+sides-text : (x y : ℕ) → 1 ≤ x → x ≤ 4000 → 1 ≤ y → y ≤ 4000 → x * y ≤ 40000 → are_sides x y ≡ true
+sides-text x y a b c d e = both _ _ (le-leb 1 x a) (both _ _ (le-leb x 4000 b) (both _ _ (le-leb 1 y c) (both _ _ (le-leb y 4000 d) (le-leb (x * y) 40000 e))))
+
+weights-text : (t : CellTable) → IsCellTable t → are_weights (t.y_side * t.x_side) t.cells ≡ true
+weights-text t h =
+    both _ _ (eq-eqb (length t.cells) (t.y_side * t.x_side) (h.count ∙ mul_comm t.x_side t.y_side))
+    (list_all-from_AllPass (λ w. leb w 100000) t.cells (λ i d l. le-leb _ _ (h.light i d l)))
+
+table-text : (I : Inst) (t : CellTable) → IsCellTable t → t.x_side ≡ I.l_side → t.y_side ≡ I.w_side → is_weighting Two (Table t) ≡ true
+table-text I t h ex ey =
+    let s = I.sides in
+    both _ _ (sides-text t.x_side t.y_side h.some_x (omega (arith, ex, s)) h.some_y (omega (arith, ey, s)) h.few) (weights-text t h)
+
+pub table-known : (given reduced : Inst) (t : CellTable) (n : ℕ) → SameSides given reduced → IsCellTable t → t.x_side ≡ reduced.l_side → t.y_side ≡ reduced.w_side → IsWeightBound reduced (cell_of t) n
+    → IsKnown given reduced (record { bound = n; cert = certs.Weighted (Table t) (Leaf ∷ []) })
+table-known given reduced t n same h ex ey w = record {
+  accepted = record { same = same; holds = record { lawful = (ex, ey); refutation = record { least = w.least; is_least = w.is_least; refutes = leaf-refutes reduced (cell_of t) n w }; some = w.some } };
+  short = inr (tt, refl);
+  in_range = λ few. both _ _ (table-text reduced t h ex ey) refl;
+}
+
+-- ---- the bounds of tables
+
+-- no weights bound fewer cases than a layer has
+pub layer-within : (I : Inst) (g : ℕ → ℕ → ℕ) (n : ℕ) (spots : List Spot) → IsWeightBound I g n → IsLayout I spots → length spots ≤ n
+layer-within I g n spots w l =
+    let b = bounded_by_weight g I w.least w.some w.is_least.bound spots l in
+    subst (λ m. length spots ≤ m) (sym w.value) b
+
+-- a bound that a layer reaches is at most that of each table
+pub reached-dual : (I : Inst) (bound : ℕ) (spots : List Spot) → bound ≤ length spots → IsLayout I spots → IsAtMostDual I bound
+reached-dual I bound spots le l t n few d w = let m = layer-within I (cell_of t) n spots w l in omega (arith, le, m)
+
+-- there is only one best table of so many rounds
+pub one-table : (I : Inst) (rounds : ℕ) (t u : CellTable) → IsDual I rounds (Some t) → IsDual I rounds (Some u) → t ≡ u
+one-table I rounds t u x y = cc (one_dual I rounds (Some t) (Some u) x y)
+
+pub dual-is : (I : Inst) (t : CellTable) (n bound : ℕ) → IsDual I 2000 (Some t) → IsWeightBound I (cell_of t) n → bound ≤ n → IsAtMostDual I bound
+dual-is I t n bound d w le u m few e v =
+    let same : u ≡ t = one-table I 2000 u t e d in
+    let v2 : IsWeightBound I (cell_of t) m = subst (λ x. IsWeightBound I (cell_of x) m) same v in
+    let s = IsWeightBound-unique I (cell_of t) n m w v2 in
+    omega (arith, le, s)
+
+pub dual-none : (I : Inst) (bound : ℕ) → IsDual I 2000 None → IsAtMostDual I bound
+dual-none I bound d t n few e w = absurd (apart (one_dual I 2000 None (Some t) d e))
+  where
+    apart : None ≡ Some t → ⊥
+    apart e = cc
