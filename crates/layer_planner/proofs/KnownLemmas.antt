@@ -73,6 +73,7 @@ patterns-more I m n le h = record {
   first_level = λ k f. let x = h.first_level k f in omega (arith, le, x);
   four_blocks = λ z a b k x y p. let w = h.four_blocks z a b k x y p in omega (arith, le, w);
   five_blocks = λ z a b k x y p. let w = h.five_blocks z a b k x y p in omega (arith, le, w);
+  ell_regions = λ z a b k x y p. let w = h.ell_regions z a b k x y p in omega (arith, le, w);
 }
 
 -- what is known beforehand, and the layer of the patterns
