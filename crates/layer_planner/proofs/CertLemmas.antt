@@ -65,7 +65,7 @@ refutation-some I g n (m ∷ ms) r = omega arith
 
 -- ---- texts
 
-both : (a b : Bool) → a ≡ true → b ≡ true → (a && b) ≡ true
+pub both : (a b : Bool) → a ≡ true → b ≡ true → (a && b) ≡ true
 both true true p q = refl
 both true false p q = q
 both false b p q = p

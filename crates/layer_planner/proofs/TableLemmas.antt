@@ -1,6 +1,6 @@
 -- Tables: what makes one accepted, that it has a text, and how its bound stands to those of layers and of other tables.
-use Rattle.std.proofs.Common.{◌≡◌, ℕ, Bool, true, ◌+◌, ◌*◌, ◌/◌, ◌≤◌, ◌∷◌, [], ◌∙◌, length, ap, sym, subst, refl, leb, eq-eqb, arith, inl, inr}
-use Rattle.std.specs.Prelude.{◌&&◌, Some, MatchOption}
+use Rattle.std.proofs.Common.{◌≡◌, ℕ, Bool, true, ◌+◌, ◌*◌, ◌/◌, ◌≤◌, List, ◌∷◌, [], ◌∙◌, Some, None, length, ap, sym, subst, refl, leb, eq-eqb, arith, inl, inr}
+use Rattle.std.specs.Prelude.{◌&&◌}
 use Rattle.std.specs.List.{list_all}
 use Rattle.std.proofs.Math.Nat.{mul_comm}
 use Rattle.std.proofs.lemmas.Bool.{le-leb}

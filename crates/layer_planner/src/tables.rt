@@ -1,5 +1,5 @@
 // What tables of weights bound, once a layer is known.
-ghost use Rattle.std.specs.Prelude.{◌≡◌, ◌*◌, ◌≤◌, ◌↔◌, IsTrue, IfOk, length};
+ghost use Rattle.std.specs.Prelude.{◌≡◌, ℕ, ◌*◌, ◌≤◌, ◌↔◌, IsTrue, IfOk, length};
 ghost use Rattle.plan_geometry.specs.Layout.{CaseFits};
 ghost use Rattle.plan_geometry.specs.Placed.{IsLayer};
 ghost use Rattle.partitions.specs.Partitions.{SameSides};
