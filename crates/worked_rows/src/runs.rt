@@ -70,3 +70,14 @@ pub fn changed(alloc: Global, text: &str, part: &str, other: &str) -> Result<Vec
     let text = format!(in alloc; "{before}{other}{after}")?;
     Ok(text.as_bytes().to_vec(alloc)?)
 }
+
+/// How many lines of a text are this one.
+pub fn count_lines(text: &str, line: &str) -> u32 {
+    let mut count: u32 = 0;
+    for here in text.lines() {
+        if here == line {
+            count = count.saturating_add(1);
+        }
+    }
+    count
+}
