@@ -5,7 +5,7 @@ ghost use Rattle.weightings.specs.Table.{cell_of};
 ghost use Rattle.weightings.specs.Weighting.{weight_of, IsLawfulWeighting};
 
 use plan_geometry::Inst;
-use weightings::{WeightTable, Weighting};
+use weightings::Weighting;
 
 // How many of the n numbers from x on leave a when divided by p.
 fn count(x: u32, n: u32, p: u32, a: u32) -> u64
@@ -32,36 +32,6 @@ fn colour_block(k: u32, c: u32, x: u32, y: u32, a: u32, b: u32) -> u64
     sum
 }
 
-// The weight of the b cells of a table's column from (x, y) up.
-fn table_column(table: &WeightTable, x: u32, y: u32, b: u32) -> u64
-    requires across { x < table.now.x_side }
-    requires along { y + b ≤ table.now.y_side }
-    requires limited { y + b ≤ 4000 }
-    ensures value { result ≡ sum_below b (λ j. cell_of table.now x (y + j)) }
-    ensures small { result ≤ b * 4294967296 }
-{
-    let mut sum: u64 = 0;
-    for j in 0..b {
-        sum += u64::from(table.cell(x, y + j));
-    }
-    sum
-}
-
-// The weight of a block of a table.
-fn table_block(table: &WeightTable, x: u32, y: u32, a: u32, b: u32) -> u64
-    requires across { x + a ≤ table.now.x_side }
-    requires along { y + b ≤ table.now.y_side }
-    requires few { x + a ≤ 4000 }
-    requires limited { y + b ≤ 4000 }
-    ensures { result ≡ block_weight (cell_of table.now) x y a b }
-{
-    let mut sum: u64 = 0;
-    for i in 0..a {
-        sum += table_column(table, x + i, y, b);
-    }
-    sum
-}
-
 /// The weight of the block of cells from (x, y), a wide and b high.
 pub fn block(inst: Inst, weighting: &Weighting, x: u32, y: u32, a: u32, b: u32) -> u64
     requires lawful { IsLawfulWeighting inst weighting.now }
@@ -78,6 +48,6 @@ pub fn block(inst: Inst, weighting: &Weighting, x: u32, y: u32, a: u32, b: u32) 
             r,
             b: row,
         } => count(x, a, p, column) * count(y, b, r, row),
-        Weighting::Table(ref table) => table_block(table, x, y, a, b),
+        Weighting::Table(ref table) => u64::from(table.weight_from(x, y, a, b)),
     }
 }

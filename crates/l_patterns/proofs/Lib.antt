@@ -7,6 +7,7 @@ pub mod MemoLemmas
 pub mod FullLemmas
 pub mod CountLemmas
 pub mod TreeLemmas
+pub mod AdmitLemmas
 pub mod RootLemmas
 pub mod ProgressLemmas
 pub mod PendingLemmas

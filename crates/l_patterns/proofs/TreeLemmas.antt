@@ -1,5 +1,5 @@
 -- The tree of what was built.
-use Rattle.std.proofs.Common.{◌≡◌, ℕ, true, false, ◌+◌, ◌<◌, List, [], ◌∷◌, Option, Some, None, length, slice_index_or, refl, ap, ap₂, sym, ◌∙◌, subst, arith, inl, inr}
+use Rattle.std.proofs.Common.{◌≡◌, ℕ, true, false, ◌+◌, ◌≤◌, ◌<◌, List, [], ◌∷◌, Option, Some, None, length, slice_index_or, refl, ap, ap₂, sym, ◌∙◌, subst, arith, inl, inr}
 use Rattle.std.specs.Option.{option_map_or}
 use Rattle.std.proofs.lemmas.Bool.{eq-eqb}
 use Rattle.std.proofs.lemmas.List.{get_or_default}
@@ -50,7 +50,7 @@ split-back i r cut p s h = elim (written-cases r) [
   | inr e ↦ split-same i (rectangle (side_x r) (side_y r)) r cut p s (flipped _ _ (written-same r e.0)) (subst (λ (z : Region). IsSplit i z cut p s) e.1 h)
 ]
 
-are-lawful : (i : Inst) (r : Region) (cut : Cut) (p s : Region) → IsSplit i r cut p s → (a b : Node) → a.region ≡ p → b.region ≡ s
+pub are-lawful : (i : Inst) (r : Region) (cut : Cut) (p s : Region) → IsSplit i r cut p s → (a b : Node) → a.region ≡ p → b.region ≡ s
     → IsLawful i a.region a.block → IsLawful i b.region b.block → AreLawful i (ell_parts r cut) (a ∷ b ∷ [])
 are-lawful i r (K1 x1 x2 y1) p s h a b e k u v = (rw e (rounded-within i _ p h.first), u, (rw k (rounded-within i _ s h.second), v, tt))
 are-lawful i r (K2 c d) p s h a b e k u v = (rw e (rounded-within i _ p h.first), u, (rw k (rounded-within i _ s h.second), v, tt))
@@ -127,8 +127,8 @@ module _ (q : Sides) (bs : List Built) (h : AreBuilt q bs) (r : Region) (f : Fit
 
 -- ---- the whole tree
 
-pub makes-tree : (q : Sides) (a b n : ℕ) (d : Node) → Fits q (rectangle a b) → Makes q.inst (rectangle a b) n d → IsTree q.inst d
-makes-tree q a b n d f m = record { lawful = m.lawful; rectangle = is-rect; in_x = rw same-x f.wide; in_y = rw same-y f.tall } where
+pub tree-of : (i : Inst) (a b n : ℕ) (d : Node) → a ≤ i.l_side → b ≤ i.w_side → Makes i (rectangle a b) n d → IsTree i d
+tree-of i a b n d x y m = record { lawful = m.lawful; rectangle = is-rect; in_x = rw same-x x; in_y = rw same-y y } where
   is-rect : is_rectangle d.region ≡ true
   is-rect = rw (m.region, eq-eqb a a refl) refl
 
@@ -137,3 +137,6 @@ makes-tree q a b n d f m = record { lawful = m.lawful; rectangle = is-rect; in_x
 
   same-y : side_y d.region ≡ b
   same-y = rw (m.region, eq-eqb a a refl) refl
+
+pub makes-tree : (q : Sides) (a b n : ℕ) (d : Node) → Fits q (rectangle a b) → Makes q.inst (rectangle a b) n d → IsTree q.inst d
+makes-tree q a b n d f m = tree-of q.inst a b n d f.wide f.tall m

@@ -1,9 +1,10 @@
 -- The laws of the numbers of L-regions.
 use Rattle.std.specs.Prelude.{ℕ, ◌+◌, ◌*◌, ◌≤◌, ◌<◌, ◌≡◌, true}
 use Rattle.plan_geometry.specs.declared.instances.Inst.{Inst}
+use Rattle.plan_geometry.specs.Layout.{Admits}
 use Rattle.block_tree.specs.declared.regions.Region.{Region}
 use Rattle.block_tree.specs.declared.regions.Cut.{Cut}
-use Rattle.block_tree.specs.Regions.{IsOrdered, is_rectangle, side_x, side_y, area}
+use Rattle.block_tree.specs.Regions.{IsOrdered, is_rectangle, side_x, side_y, rectangle, area}
 use Rattle.block_tree.specs.Parts.{IsCut}
 use Rattle.block_tree.specs.Trees.{uniform}
 use Rattle.l_patterns.specs.declared.sides.Sides.{Sides}
@@ -29,3 +30,7 @@ WholePartsLaw = (I : Inst) (r : Region) (n : ℕ) → IsRegion I r → 0 < area 
 abbrev pub NumberingLaw : Type 0
 NumberingLaw = (q : Sides) (r : Region) (cut : Cut) → AreSidesOf q → Fits q r → IsCut r cut → IsNormalCut q.inst cut
     → (k : ℕ) × (k < cut_count q r) × IsNth q r k cut
+
+-- the law of layouts: each number of a rectangle that is no larger than the pallet is the number of cases of some layout
+abbrev pub EllAdmittedLaw : Type 0
+EllAdmittedLaw = (I : Inst) (a b n : ℕ) → a ≤ I.l_side → b ≤ I.w_side → EllAll I (rectangle a b) n → Admits I n

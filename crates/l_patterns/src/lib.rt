@@ -14,7 +14,10 @@ mod stepping;
 mod trying;
 
 pub use answers::{EllAnswer, ell_search, ell_search_within, is_search_size};
-pub use laws::{cuts_are_numbered, ell_numbers_fit_in_cells, whole_parts_give_nothing_greater};
+pub use laws::{
+    cuts_are_numbered, ell_numbers_are_admitted, ell_numbers_fit_in_cells,
+    whole_parts_give_nothing_greater,
+};
 
 #[cfg(test)]
 mod tests {

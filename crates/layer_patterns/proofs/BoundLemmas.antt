@@ -5,6 +5,7 @@ use Rattle.plan_geometry.specs.declared.spots.Way.TheVariants.{Lying, Standing}
 use Rattle.plan_geometry.specs.declared.instances.Inst.{Inst}
 use Rattle.plan_geometry.specs.Layout.{Admits, IsBounded}
 use Rattle.plan_geometry.specs.Grid.{grid_count}
+use Rattle.block_tree.specs.Regions.{rectangle}
 use Rattle.block_tree.specs.Trees.{uniform}
 use Rattle.block_tree.proofs.DrawingLemmas.{root-admits}
 use Rattle.block_tables.specs.declared.patterns.Pattern.{Pattern}
@@ -15,6 +16,8 @@ use Rattle.block_tables.proofs.EntryLemmas.{down-one}
 use Rattle.block_tables.proofs.AdmitLemmas.{admitted}
 use Rattle.five_block.specs.FirstLevel.{IsFirstNumber, first_root}
 use Rattle.five_block.proofs.RootLemmas.{root-tree}
+use Rattle.l_patterns.specs.Ells.{EllAll, IsGreatestEll}
+use Rattle.l_patterns.proofs.AdmitLemmas.{admitted as ell-admitted}
 
 -- what some layout has is at most what no layout exceeds
 few : (I : Inst) (most : ℕ) → IsBounded I most → (n : ℕ) → Admits I n → n ≤ most
@@ -46,4 +49,14 @@ block-greatest I p m g a b n x y h =
     let u : g.a ≡ a = down-one I I.l_side g.a a g.down_x x in
     let v : g.b ≡ b = down-one I I.w_side g.b b g.down_y y in
     let k : IsNumber I p g.a g.b n = rw (u, v) h in
+    g.best.greatest n k
+
+pub ell-few : (I : Inst) (most : ℕ) → IsBounded I most → (a b n : ℕ) → RoundsTo I I.l_side a → RoundsTo I I.w_side b → EllAll I (rectangle a b) n → n ≤ most
+ell-few I most k a b n x y h = few I most k n (ell-admitted I a b n (down-le I I.l_side a x) (down-le I I.w_side b y) h)
+
+pub ell-greatest : (I : Inst) (m : ℕ) → IsGreatestEll I m → (a b n : ℕ) → RoundsTo I I.l_side a → RoundsTo I I.w_side b → EllAll I (rectangle a b) n → n ≤ m
+ell-greatest I m g a b n x y h =
+    let u : g.a ≡ a = down-one I I.l_side g.a a g.down_x x in
+    let v : g.b ≡ b = down-one I I.w_side g.b b g.down_y y in
+    let k : EllAll I (rectangle g.a g.b) n = rw (u, v) h in
     g.best.greatest n k

@@ -1,13 +1,21 @@
--- The normal places of a side are one list.
-use Rattle.std.proofs.Common.{◌≡◌, ℕ, zero, suc, ◌<◌, ◌⊎◌, List, [], ◌∷◌, length, get_or, ap, sym, subst, refl, ◌∙◌, inl, inr, arith}
+-- The normal places of a side are one list, and a side with one place has no case.
+use Rattle.std.proofs.Common.{◌≡◌, ℕ, zero, suc, ◌*◌, ◌≤◌, ◌<◌, ◌⊎◌, List, [], ◌∷◌, length, get_or, ap, sym, subst, refl, ◌∙◌, inl, inr, arith}
 use Rattle.std.specs.List.{AllPairs, Contains}
+use Rattle.std.proofs.lemmas.Bool.{cases_lt}
 use Rattle.std.proofs.lemmas.List.Elements.{All-contains}
+use Rattle.std.proofs.Math.Nat.{le_refl, mul-le-mul_left, mul-le-mul_right}
 use Rattle.plan_geometry.specs.declared.instances.Inst.{Inst}
 use Rattle.plan_geometry.proofs.LayoutSteps.{AllPairs-head, AllPairs-tail}
+use Rattle.partitions.specs.Partitions.{IsNormal}
 use Rattle.raster_points.specs.Places.{Lists}
+use Rattle.block_tree.specs.Regions.{rectangle}
+use Rattle.block_tree.proofs.AreaLemmas.{area-rectangle}
+use Rattle.block_tables.specs.Numbers.{RoundsTo}
 use Rattle.five_block.specs.Five.{IsFiveSize}
 use Rattle.g4_patterns.specs.Four.{IsFourSize}
-use Rattle.layer_patterns.specs.Patterns.{AreNormalPlaces, IsFiveSized, IsFourSized}
+use Rattle.l_patterns.specs.Ells.{EllAll, IsSearchSize, IsEllSize}
+use Rattle.l_patterns.proofs.EllLemmas.{number-none}
+use Rattle.layer_patterns.specs.Patterns.{AreNormalPlaces, IsFiveSized, IsFourSized, IsEllSized}
 
 abbrev IsRising : List ℕ → Type 0
 IsRising xs = AllPairs (λ (x y : ℕ). x < y) xs
@@ -68,3 +76,45 @@ pub five-size : (I : Inst) (xs ys : List ℕ) → AreNormalPlaces I xs ys → Is
 five-size I xs ys p h =
     subst (λ (l : List ℕ). IsFiveSize l ys) (lists-same _ h.xs xs h.places.on_x p.on_x)
     (subst (λ (l : List ℕ). IsFiveSize h.xs l) (lists-same _ h.ys ys h.places.on_y p.on_y) h.few)
+
+pub ell-size : (I : Inst) (xs ys : List ℕ) → AreNormalPlaces I xs ys → IsEllSized I → IsEllSize xs ys
+ell-size I xs ys p h =
+    subst (λ (l : List ℕ). IsEllSize l ys) (lists-same _ h.xs xs h.places.on_x p.on_x)
+    (subst (λ (l : List ℕ). IsEllSize h.xs l) (lists-same _ h.ys ys h.places.on_y p.on_y) h.few)
+
+-- ---- a side with one place
+
+only : (x z : ℕ) → Contains (x ∷ []) z → x ≡ z
+only x z c = elim (cases x z [] c) [ inl e ↦ e | inr d ↦ absurd (omega (arith, d.1)) ]
+
+one-place : (xs : List ℕ) (v w : ℕ) → length xs ≤ 1 → Contains xs v → Contains xs w → v ≡ w
+one-place [] v w h c d = absurd (omega (arith, c.1))
+one-place (x ∷ []) v w h c d = sym (only x v c) ∙ only x w d
+one-place (x ∷ y ∷ xs) v w h c d = absurd (omega (arith, h))
+
+-- the one place is 0
+rounds-none : (I : Inst) (side a : ℕ) (xs : List ℕ) → Lists (IsNormal side I.long I.short) xs → length xs ≤ 1 → RoundsTo I side a → a ≡ 0
+rounds-none I side a xs l h d =
+    let z : IsNormal side I.long I.short 0 = record { i = 0; j = 0; sum = omega arith; within = omega arith } in
+    one-place xs a 0 h (l.whole a d.normal) (l.whole 0 z)
+
+ell-none : (I : Inst) (a b n : ℕ) → (a ≡ 0) ⊎ (b ≡ 0) → EllAll I (rectangle a b) n → n ≡ 0
+ell-none I a b n e h = number-none I (rectangle a b) n (le_refl a, le_refl b) (area-rectangle a b ∙ product e) h where
+  product : (a ≡ 0) ⊎ (b ≡ 0) → a * b ≡ 0
+  product (inl e) = ap (λ z. z * b) e ∙ omega arith
+  product (inr e) = ap (λ z. a * z) e ∙ omega arith
+
+-- sides of few pairs of places that a search does not take are those of which one has one place, and they have no case
+pub ell-unsearched : (I : Inst) (xs ys : List ℕ) → AreNormalPlaces I xs ys → IsEllSize xs ys → (IsSearchSize xs ys → ⊥)
+    → (a b n : ℕ) → RoundsTo I I.l_side a → RoundsTo I I.w_side b → EllAll I (rectangle a b) n → n ≡ 0
+ell-unsearched I xs ys p few out a b n x y h =
+    elim (cases_lt 1 (length xs)) [
+      | inr w ↦ ell-none I a b n (inl (rounds-none I I.l_side a xs p.on_x (omega (arith, w)) x)) h
+      | inl w ↦
+          elim (cases_lt 1 (length ys)) [
+            | inr v ↦ ell-none I a b n (inr (rounds-none I I.w_side b ys p.on_y (omega (arith, v)) y)) h
+            | inl v ↦ absurd (let l : length xs * 2 ≤ length xs * length ys = mul-le-mul_left (length xs) (omega (arith, v)) in
+                let m : 2 * length ys ≤ length xs * length ys = mul-le-mul_right (length ys) (omega (arith, w)) in
+                out (record { product = omega (arith, few); x_few = omega (arith, l, few); y_few = omega (arith, m, few) }))
+          ]
+    ]

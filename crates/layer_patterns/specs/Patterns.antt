@@ -5,10 +5,12 @@ use Rattle.plan_geometry.specs.declared.instances.Inst.{Inst}
 use Rattle.plan_geometry.specs.Grid.{grid_count}
 use Rattle.partitions.specs.Partitions.{IsNormal}
 use Rattle.raster_points.specs.Places.{Lists}
+use Rattle.block_tree.specs.Regions.{rectangle}
 use Rattle.block_tables.specs.Numbers.{RoundsTo}
 use Rattle.five_block.specs.FirstLevel.{IsFirstNumber}
 use Rattle.five_block.specs.Five.{IsFiveSize, FiveAll}
 use Rattle.g4_patterns.specs.Four.{IsFourSize, FourAll}
+use Rattle.l_patterns.specs.Ells.{IsEllSize, EllAll}
 
 -- the normal places of the pallet's two sides
 pub record AreNormalPlaces (I : Inst) (xs ys : List ℕ) : Type 0 where
@@ -29,6 +31,13 @@ pub record IsFourSized (I : Inst) : Type 0 where
   pub places : AreNormalPlaces I xs ys
   pub few : IsFourSize xs ys
 
+-- the sides have few enough normal places for L-regions
+pub record IsEllSized (I : Inst) : Type 0 where
+  pub xs : List ℕ
+  pub ys : List ℕ
+  pub places : AreNormalPlaces I xs ys
+  pub few : IsEllSize xs ys
+
 -- the count is at least each number of the first level
 abbrev pub ReachesFirst : Inst → ℕ → Type 0
 ReachesFirst I count = (n : ℕ) → IsFirstNumber I n → n ≤ count
@@ -43,11 +52,19 @@ ReachesFour I count = IsFourSized I → Reaches FourAll I count
 abbrev pub ReachesFive : Inst → ℕ → Type 0
 ReachesFive I count = IsFiveSized I → Reaches FiveAll I count
 
--- The count is at least each number of these patterns: the two grids; the first level of five blocks; four blocks, and
--- five blocks, where the sides have few enough normal places for them.
+-- the numbers of the rectangle of these sides by L-regions
+abbrev pub EllBlock : Inst → ℕ → ℕ → ℕ → Type 0
+EllBlock I a b = EllAll I (rectangle a b)
+
+abbrev pub ReachesEll : Inst → ℕ → Type 0
+ReachesEll I count = IsEllSized I → Reaches EllBlock I count
+
+-- The count is at least each number of these patterns: the two grids; the first level of five blocks; four blocks,
+-- five blocks, and L-regions, each where the sides have few enough normal places for them.
 pub record HoldsPatterns (I : Inst) (count : ℕ) : Type 0 where
   pub lying : grid_count I Lying ≤ count
   pub standing : grid_count I Standing ≤ count
   pub first_level : ReachesFirst I count
   pub four_blocks : ReachesFour I count
   pub five_blocks : ReachesFive I count
+  pub ell_regions : ReachesEll I count

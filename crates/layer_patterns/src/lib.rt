@@ -52,4 +52,30 @@ mod tests {
         }
         Ok(())
     }
+
+    // No five blocks hold 53 cases here, and the cells allow no more.
+    #[test]
+    fn of_ell_regions(rt: HostRuntime) -> Result<(), Fail> {
+        let inst = Inst::new(43, 26, 7, 3).ok_or("sides")?;
+        let most = area_bound(inst);
+        if most > 1000 {
+            return Err("too many cases".into());
+        }
+        let layer = layer_by_patterns(rt.alloc(), inst, most)?;
+        assert_eq!(rt; layer.count(), 53);
+        Ok(())
+    }
+
+    // With 203 normal places along x no pattern of regions or blocks is tried: one row of cases is left.
+    #[test]
+    fn too_many_places(rt: HostRuntime) -> Result<(), Fail> {
+        let inst = Inst::new(405, 3, 2, 2).ok_or("sides")?;
+        let most = area_bound(inst);
+        if most > 1000 {
+            return Err("too many cases".into());
+        }
+        let layer = layer_by_patterns(rt.alloc(), inst, most)?;
+        assert_eq!(rt; layer.count(), 202);
+        Ok(())
+    }
 }

@@ -3,11 +3,12 @@ ghost use Rattle.plan_geometry.specs.Layout.{IsBounded};
 ghost use Rattle.plan_geometry.specs.Placed.{IsLayer};
 ghost use Rattle.raster_points.specs.Points.{ArePointsOf};
 ghost use Rattle.block_tree.specs.Trees.{held_count};
-ghost use Rattle.layer_patterns.specs.Patterns.{AreNormalPlaces, ReachesFirst, ReachesFour, ReachesFive, HoldsPatterns};
+ghost use Rattle.layer_patterns.specs.Patterns.{AreNormalPlaces, ReachesFirst, ReachesFour, ReachesFive, ReachesEll, HoldsPatterns};
 
 use block_tree::BlockTree;
 use five_block::{five_closure, is_five_size, level_one};
 use g4_patterns::{four_closure, is_four_size};
+use l_patterns::{ell_search, is_search_size};
 use plan_geometry::{Axis, Inst, Layer, uniform};
 use plan_memory::Memory;
 use raster_points::Points;
@@ -114,7 +115,37 @@ fn after_five_blocks(
     improved(alloc, layer, &tree)
 }
 
-// The layer so far, or that of four blocks or of five.
+// The layer so far, or that of L-regions.
+fn after_ell_regions(
+    alloc: Global,
+    inst: Inst,
+    px: &Points,
+    py: &Points,
+    most: u32,
+    layer: Layer,
+) -> Result<Layer, Memory>
+    requires px { ArePointsOf Axis.X inst px.now }
+    requires py { ArePointsOf Axis.Y inst py.now }
+    requires places { AreNormalPlaces inst px.now.normal py.now.normal }
+    requires most { IsBounded inst most }
+    requires layer { IsLayer layer.inst layer.spots }
+    requires inst { layer.inst ≡ inst }
+    ensures inst { IfOk result (λ a. a.inst ≡ inst) }
+    ensures layer { IfOk result (λ a. IsLayer a.inst a.spots) }
+    ensures grown { IfOk result (λ a. length layer.spots ≤ length a.spots) }
+    ensures ell { IfOk result (λ a. ReachesEll inst (length a.spots)) }
+{
+    if is_full(&layer, most) {
+        return Ok(layer);
+    }
+    if !is_search_size(px, py) {
+        return Ok(layer);
+    }
+    let answer = ell_search(alloc, inst, px, py)?;
+    improved(alloc, layer, &answer.tree)
+}
+
+// The layer so far, or that of four blocks, of five or of L-regions.
 fn after_closures(alloc: Global, inst: Inst, most: u32, layer: Layer) -> Result<Layer, Memory>
     requires most { IsBounded inst most }
     requires layer { IsLayer layer.inst layer.spots }
@@ -124,6 +155,7 @@ fn after_closures(alloc: Global, inst: Inst, most: u32, layer: Layer) -> Result<
     ensures grown { IfOk result (λ a. length layer.spots ≤ length a.spots) }
     ensures four { IfOk result (λ a. ReachesFour inst (length a.spots)) }
     ensures five { IfOk result (λ a. ReachesFive inst (length a.spots)) }
+    ensures ell { IfOk result (λ a. ReachesEll inst (length a.spots)) }
 {
     if is_full(&layer, most) {
         return Ok(layer);
@@ -131,12 +163,13 @@ fn after_closures(alloc: Global, inst: Inst, most: u32, layer: Layer) -> Result<
     let px = Points::of(alloc, inst.l_side, inst.long, inst.short)?;
     let py = Points::of(alloc, inst.w_side, inst.long, inst.short)?;
     let layer = after_four_blocks(alloc, inst, &px, &py, most, layer)?;
-    after_five_blocks(alloc, inst, &px, &py, most, layer)
+    let layer = after_five_blocks(alloc, inst, &px, &py, most, layer)?;
+    after_ell_regions(alloc, inst, &px, &py, most, layer)
 }
 
 /// A layer of the pallet. It starts as the better grid; while it has fewer than `most` cases, which no layout exceeds,
-/// the first level of five blocks, four blocks and five blocks are tried in turn, and a layer with more cases takes its
-/// place.
+/// the first level of five blocks, four blocks, five blocks and L-regions are tried in turn, each where the sides have
+/// few enough normal places for it, and a layer with more cases takes its place.
 pub fn layer_by_patterns(alloc: Global, inst: Inst, most: u32) -> Result<Layer, Memory>
     requires most { IsBounded inst most }
     requires few { most ≤ 1000 }

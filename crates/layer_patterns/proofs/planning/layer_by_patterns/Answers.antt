@@ -16,4 +16,4 @@ pub returns-clause-patterns : goal.returns-clause-patterns
 returns-clause-patterns c =
     all-patterns c.args.inst c.after_closures.result (length c.in_ok-layer.layer.spots) (length c.in_ok-layer-2.layer.spots)
     c.in_ok-layer.ensures.greatest c.in_ok-layer-2.ensures.grown c.in_ok-layer-2.ensures.first
-    c.after_closures.ensures.grown c.after_closures.ensures.four c.after_closures.ensures.five
+    c.after_closures.ensures.grown c.after_closures.ensures.four c.after_closures.ensures.five c.after_closures.ensures.ell
