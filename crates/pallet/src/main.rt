@@ -1,6 +1,9 @@
 //! Plans layers of cases on a pallet: reads standard input, and writes standard output.
 #![tactic(auto)]
 
+mod remarks;
+
+use crate::remarks::Remark;
 use pallet_top::{Answer, Code, run};
 use plan_io::{StdSink, StdSource};
 use std::env;
@@ -16,16 +19,9 @@ fn main(rt: HostRuntime) -> ExitCode {
         }
         Err(code) => Answer { code, line: 0 },
     };
-    match answer.code {
-        Code::Done => {}
-        Code::BadReport => {
-            let line = answer.line;
-            let _ = eprintln!(rt; "pallet: not a report, line {line}");
-        }
-        code => {
-            let line = line_of(code);
-            let _ = eprintln!(rt; "{line}");
-        }
+    if answer.code != Code::Done {
+        let remark = Remark { answer };
+        let _ = eprintln!(rt; "{remark}");
     }
     ExitCode::from(answer.code as u8)
 }
@@ -48,22 +44,4 @@ fn words(rt: &HostRuntime) -> Result<Vec<String>, Code> {
         }
     }
     Ok(words)
-}
-
-// What is said on standard error.
-fn line_of(code: Code) -> &'static str {
-    match code {
-        Code::Done => "pallet: done",
-        Code::Findings => "pallet: some rows or entries were not accepted",
-        Code::Usage => {
-            "usage: pallet plan [--draw] | check [--workers N] | upgrade | trial --number N"
-        }
-        Code::TooLong => "pallet: input too long",
-        Code::NoHeader => "pallet: no header",
-        Code::TooManyRows => "pallet: too many rows",
-        Code::BadReport => "pallet: not a report",
-        Code::ReadFault => "pallet: reading failed",
-        Code::WriteFault => "pallet: writing failed",
-        Code::Memory => "pallet: out of memory",
-    }
 }

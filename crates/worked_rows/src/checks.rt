@@ -12,12 +12,19 @@ fn certificates(rt: HostRuntime) -> Result<(), Fail> {
         ("cert weighted\nweighting area\ntree BBB..", true),
         ("cert weighted\nweighting area\ntree BBB.", false),
         ("cert weighted\nweighting area\ntree BBB...", false),
+        ("cert weighted\nweighting area\ntree .", false),
+        ("cert weighted\nweighting comb 3 2 3 2\ntree .", true),
+        ("cert weighted\nweighting colour 3 2\ntree .", false),
         (
             "cert strip 3\ncut 0 x 0 1 1\ncut 1 x 1 1 1\ncut 2 x 1 0 1",
             true,
         ),
         (
             "cert strip 3\ncut 0 x 0 1 1\ncut 1 x 1 1 2\ncut 2 x 1 0 1",
+            false,
+        ),
+        (
+            "cert strip 3\ncut 0 x 0 1 1\ncut 1 x 1 1 0\ncut 2 x 1 0 1",
             false,
         ),
         ("cert strip 2\ncut 0 x 0 1 1\ncut 1 x 1 1 1", false),

@@ -44,12 +44,18 @@ pub fn ran_on<R: Threads + Sync>(
     mut source: MemSource,
     sink: &mut MemSink,
 ) -> Result<(Code, u32), Fail> {
+    let words = words_of(alloc, line)?;
+    let answer = run(rt, alloc, &words, &mut source, sink);
+    Ok((answer.code, answer.line))
+}
+
+/// The words of a line.
+pub fn words_of(alloc: Global, line: &str) -> Result<Vec<String>, Fail> {
     let mut words = Vec::new(alloc);
     for word in line.split_whitespace() {
         words.push(String::from_str(alloc, word)?)?;
     }
-    let answer = run(rt, alloc, &words, &mut source, sink);
-    Ok((answer.code, answer.line))
+    Ok(words)
 }
 
 /// An orders file of these rows, each of which stands behind a line end, under the header without the gap.
@@ -63,4 +69,15 @@ pub fn changed(alloc: Global, text: &str, part: &str, other: &str) -> Result<Vec
     let (before, after) = text.split_once(part).ok_or("no such part")?;
     let text = format!(in alloc; "{before}{other}{after}")?;
     Ok(text.as_bytes().to_vec(alloc)?)
+}
+
+/// How many lines of a text are this one.
+pub fn count_lines(text: &str, line: &str) -> u32 {
+    let mut count: u32 = 0;
+    for here in text.lines() {
+        if here == line {
+            count = count.saturating_add(1);
+        }
+    }
+    count
 }
