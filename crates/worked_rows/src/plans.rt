@@ -134,41 +134,26 @@ fn gaps(rt: HostRuntime) -> Result<(), Fail> {
     Ok(())
 }
 
-// Trees that show that no layer has one case more, by their number of marks.
+// Orders whose layer neither the area nor the strips show to be the greatest: a table of weights does.
 #[test]
-fn trees(rt: HostRuntime) -> Result<(), Fail> {
+fn tables(rt: HostRuntime) -> Result<(), Fail> {
     let rows = [
-        (
-            "\nT,14,13,5,3,1,1,1,1,0,0,100",
-            "\ncount 11\nbound 11\nstatus optimal\n",
-            300,
-        ),
         (
             "\nT,12,11,7,2,1,1,1,1,0,0,100",
             "\ncount 8\nbound 8\nstatus optimal\n",
-            631,
         ),
         (
-            "\nT,14,13,4,3,1,1,1,1,0,0,100",
+            "\nT,19,12,7,2,1,1,1,1,0,0,100",
             "\ncount 14\nbound 14\nstatus optimal\n",
-            3_418,
-        ),
-        (
-            "\nT,15,14,9,2,1,1,1,1,0,0,100",
-            "\ncount 10\nbound 10\nstatus optimal\n",
-            13_501,
         ),
     ];
-    for (row, counts, marks) in rows {
-        let alloc = rt.alloc();
-        let ran = ran(&rt, alloc, "plan", &file(alloc, row)?)?;
-        let Ok(text) = str::from_utf8(&ran.written) else {
-            return Err("no text".into());
-        };
-        let (_, behind) = text.split_once("\ntree ").ok_or("no tree")?;
-        let (tree, _) = behind.split_once("\n").ok_or("no end")?;
-        assert!(rt; text.contains(counts));
-        assert_eq!(rt; tree.len(), marks);
+    for (row, counts) in rows {
+        let parts = [
+            counts,
+            "\ncert weighted\nweighting table ",
+            "\ntree .\nlayers ",
+        ];
+        assert!(rt; planned(&rt, rt.alloc(), row, parts.as_slice())?);
     }
     Ok(())
 }
