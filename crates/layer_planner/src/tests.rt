@@ -116,10 +116,13 @@ fn own_places(rt: HostRuntime) -> Result<(), Fail> {
 // How a search for one case more than the patterns of blocks reach ends.
 fn searched(alloc: Global, sides: [u32; 4]) -> Result<Searched, Fail> {
     let given = Inst::new(sides[0], sides[1], sides[2], sides[3]).ok_or("sides")?;
+    if !case_fits(given) {
+        return Err("no case fits".into());
+    }
     let inst = reduce(given);
     let most = area_bound(inst);
-    if most > 999 || !case_fits(inst) {
-        return Err("no layer".into());
+    if most > 999 {
+        return Err("too many cases".into());
     }
     let layer = layer_by_patterns(alloc, inst, most)?;
     let lead = lead(inst);

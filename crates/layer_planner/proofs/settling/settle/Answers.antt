@@ -1,4 +1,4 @@
-use Rattle.std.proofs.Common.{◌≤◌, length, subst, arith}
+use Rattle.std.proofs.Common.{length, subst}
 use Rattle.plan_geometry.specs.Layout.{IsLayout}
 use Rattle.weightings.specs.Weighting.{weight_of}
 use Rattle.layer_planner.proofs.SideLemmas.{bounds-reduced}

@@ -1,4 +1,4 @@
-use Rattle.std.proofs.Common.{◌≡◌, ◌≤◌, ◌∙◌, true, false, length, sym, subst, arith}
+use Rattle.std.proofs.Common.{◌≡◌, ◌∙◌, true, false, sym, subst, arith}
 use Rattle.plan_geometry.specs.Layout.{IsLayout}
 use Rattle.layer_planner.proofs.TableLemmas.{reached-dual}
 use Rattle.layer_planner.proofs.tables.or_tables.Goals as goal
