@@ -1,6 +1,6 @@
 use crate::plan_order;
 use crate::search::{Searched, search};
-use layer_patterns::layer_by_patterns;
+use layer_patterns::layer_by_blocks;
 use layer_symmetry::Move;
 use minimum_size::reduce;
 use order_reader::Order;
@@ -124,7 +124,7 @@ fn searched(alloc: Global, sides: [u32; 4]) -> Result<Searched, Fail> {
     if most > 999 {
         return Err("too many cases".into());
     }
-    let layer = layer_by_patterns(alloc, inst, most)?;
+    let layer = layer_by_blocks(alloc, inst, most)?;
     let lead = lead(inst);
     let more = layer.count() + 1;
     let answer = search(alloc, inst, &lead, more, layer)?;
