@@ -1,5 +1,5 @@
 -- Bounds that are known, and a layer with the bound that is left of them.
-use Rattle.std.specs.Prelude.{◌≡◌, ◌≤◌, ◌⊎◌, length}
+use Rattle.std.specs.Prelude.{◌≡◌, ℕ, ◌≤◌, ◌⊎◌, length}
 use Rattle.plan_geometry.specs.declared.instances.Inst.{Inst}
 use Rattle.plan_geometry.specs.Layout.{area_bound_of}
 use Rattle.plan_geometry.specs.Placed.{IsLayer}
