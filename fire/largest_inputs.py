@@ -12,17 +12,21 @@ anything else was seen. Needs 1.5 GB in the temporary folder, and some minutes.
 """
 
 import argparse
+import collections
 import os
+import random
 import subprocess
 import sys
 import tempfile
 
+import mutated_inputs
 import plan_look
 import program
 from orders import fault_of_numbers, rows_of
 from program import GAP_HEADER, SAID, Outcome
-from reports import MOST_BYTES, MOST_MARKS, Plan, Refused, entry_text, read_report
-from second_look import Corner, Weights, least_weight, right_stack, variants_of, verdict_of
+from reports import HEADS, MOST_BYTES, Plan, Refused, entry_text, read_report
+from second_look import right_stack, variants_of, verdict_of
+from trees import longest_tree
 
 
 class Measured:
@@ -109,8 +113,22 @@ def open_rows():
     return [[3999 - place % 16, 3001 + place // 16, 113, 107, 1, 1, 1000, 100000000, 50, 1, 60, 0] for place in range(256)]
 
 
-def tree_rows():
-    return [[37, 18, 13, 3, 1, 1, 1000, 100000, 50, 1, 60, 0]] * 256
+def row_of(sides):
+    return [*sides, 1, 1, 1000, 100000000, 50, 1, 60, 0]
+
+
+def table_rows():
+    return [row_of((47, 27, 10, 3))] * 256
+
+
+def hard_row():
+    """A row whose search for L-regions gives up, and which a table then closes."""
+    return [row_of((104, 65, 19, 5))]
+
+
+def open_row():
+    """A row of nearly 40,000 cells that no table closes."""
+    return [row_of((200, 199, 14, 13))]
 
 
 def look_at_plan(measured, what, source, output):
@@ -157,21 +175,6 @@ def try_orders(measured, what, rows, others=True):
 
 # ---- the largest report
 
-def longest_tree(reduced, weights, least, bound):
-    """A tree that refutes one case more, of as nearly 500,000 marks as its branches allow."""
-    walk = Corner(reduced, weights, least, bound)
-    marks, pending = [], [walk.start()]
-    while pending:
-        state = pending.pop()
-        moves = walk.moves(state[0])
-        if moves and len(marks) + 1 + len(pending) + len(moves) <= MOST_MARKS:
-            marks.append("B")
-            pending += [walk.after(state, move) for move in reversed(moves)]
-        else:
-            marks.append(".")
-    return "".join(marks)
-
-
 def largest_plan():
     """A plan that is sound, and whose text is nearly as long as a plan's can be."""
     plan = Plan()
@@ -179,9 +182,7 @@ def largest_plan():
     plan.order = (4000, 4000, 160, 100, 1, 1, 10000, 100000000, 100, 1, 100, 0)
     plan.reduced, plan.count, plan.bound, plan.optimal = (200, 200, 8, 5), 1000, 1000, True
     table = ("table", [(100000,) * 200] * 200)
-    weights = Weights(table, plan.reduced)
-    marks = longest_tree(plan.reduced, weights, least_weight(weights, plan.reduced), plan.bound)
-    plan.cert = ("weighted", table, marks)
+    plan.cert = ("weighted", table, longest_tree(table, plan.reduced, plan.bound))
     standing = [(100 * i, 160 * j, "S") for i in range(8) for j in range(5)]
     lying = [(160 * i, 100 * j, "L") for i in range(25) for j in range(40) if i >= 5 or j >= 8]
     cases = sorted(standing + lying, key=lambda case: (case[1], case[0]))
@@ -214,6 +215,78 @@ def try_reports(measured):
             measured.same(" ".join(words) + " of " + what, "verdicts", "yes")
         measured.run(what, ["upgrade"], "report", "upgraded", 0)
         measured.same("upgrade of " + what, "upgraded", "report")
+
+
+def planned(row):
+    """The entry that `plan` writes for a row of twelve numbers."""
+    outcome = program.run(["plan"], orders_of([row]))
+    return read_report(outcome.written)[1][0]
+
+
+def changed(entry, **parts):
+    """The bytes of a report, in the form `form`, of `times` such entries with some parts changed."""
+    form, times = parts.pop("form", 2), parts.pop("times", 1)
+    entry = entry.copy()
+    for name, value in parts.items():
+        setattr(entry, name, value)
+    text = entry_text(entry, form)
+    behind = text[text.index(b"\n"):]
+    entries = b"".join(b"entry %d%s" % (number, behind) for number in range(1, times + 1))
+    return HEADS[form] + b"\n" + entries + b"done %d\n" % times
+
+
+def limit_reports():
+    """Reports at a limit of the grammar, and one beyond it."""
+    two, small = planned([5, 5, 3, 2, 1, 10, 2, 1000, 100, 1, 20, 0]), planned([20, 20, 1, 1, 1, 1, 10000, 100000000, 0, 0, 100, 0])
+    full = planned([40, 25, 1, 1, 1, 1, 10, 10000, 0, 0, 100, 0])
+    square = planned([200, 200, 8, 5, 1, 1, 1, 10000, 0, 0, 100, 0]).copy()
+    square.reduced = (200, 200, 8, 5)
+    cases = small.layers[0][1]
+    yield from (changed(two, form=form, times=times) for form, times in ((2, 256), (2, 257), (1, 64), (1, 65)))
+    yield from (changed(two, id=b" " * count, form=form) for count in (1, 40, 41) for form in (1, 2))
+    yield from (changed(full, bound=bound, optimal=bound == 1000) for bound in (999, 1000, 1001))
+    yield from (changed(full, cert=("strip", [("area",)] * count)) for count in (1, 2, 1001, 1002, 1003))
+    yield from (changed(small, cert=("strip", [("area",)] * count), form=1) for count in (402, 403))
+    yield changed(full, form=1)
+    for more in (0, 1):
+        layers = [("same", cases + cases[-1:] * more)]
+        yield changed(small, count=400 + more, bound=400 + more, layers=layers, form=1)
+        yield changed(small, stack=(1,) * (10000 + more))
+        yield changed(small, allowed=10000 + more)
+        yield changed(two, cert=("weighted", ("area",), "B" * (500000 + more)))
+        yield changed(two, cert=("weighted", ("area",), "B..." + "." * (499996 + more)))
+        yield changed(square, cert=("weighted", ("table", [(100000 + more,) * 200] * 200), "."))
+        yield changed(square, cert=("weighted", ("table", [(1,) * 200] * (200 + more)), "."))
+        yield changed(square, cert=("weighted", ("table", [(1,) * (4000 + more)] * 10), "."))
+
+
+def limit_orders():
+    """Orders files at a limit, and one beyond it."""
+    row = b"A,2,2,1,1,1,1,1,1,0,0,100\n"
+    yield from (program.HEADER + row * count for count in (255, 256, 257))
+    room = 262144 - len(program.HEADER)
+    yield program.HEADER + b"x" * room
+    yield program.HEADER + b"," * room
+    yield program.HEADER + b"\"" * room
+    yield program.HEADER + b"\n" * (room - len(row)) + row
+    yield program.HEADER + b"\n" * (room - len(row)) + row + b"\n"
+    yield program.HEADER + b"x\n" * (room // 2)
+    yield program.HEADER + row.replace(b"A", b"x" * 40) + row.replace(b"A", b"x" * 41)
+
+
+def try_limits(measured):
+    """Limits, looked at as the changed inputs are."""
+    tally, rng = collections.Counter(), random.Random(1)
+    tries = [lambda data=data: mutated_inputs.try_check(rng, data, tally) for data in limit_reports()]
+    tries += [lambda data=data: mutated_inputs.try_upgrade(data, tally) for data in limit_reports()]
+    tries += [lambda data=data: mutated_inputs.try_plan(rng, data, tally) for data in limit_orders()]
+    for number, one in enumerate(tries):
+        measured.runs += 1
+        try:
+            one()
+        except mutated_inputs.Find as find:
+            measured.find("limit %d: %s" % (number, str(find)[:500]))
+    print("  (limits: %s)" % ", ".join("%d %s" % (tally[name], name) for name in sorted(tally)))
 
 
 def try_too_long(measured):
@@ -257,7 +330,9 @@ ROWS = [
     ("256 rows of 1,000 cases, 10,000 layers", long_stack_rows, True),
     ("256 rows 4000 12 4000 1", thin_rows, False),
     ("256 rows of nearly 1,000 cases, walks of 500,000 states", open_rows, False),
-    ("256 rows 37 18 13 3, trees of 468,162 marks", tree_rows, True),
+    ("256 rows 47 27 10 3, each closed by a table", table_rows, False),
+    ("one row 104 65 19 5, closed by a table after L-regions", hard_row, False),
+    ("one row 200 199 14 13, open", open_row, False),
 ]
 
 
@@ -272,6 +347,7 @@ def main():
         for what, rows, others in ROWS:
             try_orders(measured, what, rows(), others)
         try_reports(measured)
+        try_limits(measured)
         try_too_long(measured)
         try_trials(measured)
     print("largest inputs: %d runs, %d finds" % (measured.runs, len(measured.finds)))

@@ -28,8 +28,9 @@ import mutations
 import plan_look
 import program
 from program import SAID, run
-from reports import MOST_BYTES, NotAReport, Refused, read_report, report_text
+from reports import NotAReport, Refused, read_report, report_text
 from second_look import verdict_of, verdicts_text
+from trees import shortest_tree
 
 MADE_ROWS = [
     "6,6,4,1,1,10,4,1000,10,0,60,0", "5,5,3,3,1,10,1,1000,0,0,100,0", "1000,1000,300,200,1,10,3,1000,50,1,70,0",
@@ -63,8 +64,24 @@ def base_entries(files):
         if wrong:
             raise Find("plan of a file that is not changed: %s, %r" % (wrong, outcome))
         entries += found
-    # A tree of thousands of marks takes a second judge in Python seconds, so few of them are kept.
-    return [entry for entry in entries if isinstance(entry, Refused) or len(str(entry.cert)) < 4000]
+    # A certificate of thousands of marks takes the second judge long.
+    entries = [entry for entry in entries if isinstance(entry, Refused) or len(str(entry.cert)) < 4000]
+    return entries + [treed for entry in entries for treed in treed_of(entry)]
+
+
+def treed_of(entry):
+    """The entry with its bound shown by trees, where they have more than one mark and not many."""
+    if isinstance(entry, Refused) or entry.reduced[0] * entry.reduced[1] > 900:
+        return []
+    long_side, short_side = entry.reduced[2:]
+    found = []
+    for weighting in (("area",), ("colour", long_side, 0), ("colour", short_side, short_side - 1)):
+        marks = shortest_tree(weighting, entry.reduced, entry.bound, 2000)
+        if marks is not None and len(marks) > 1:
+            treed = entry.copy()
+            treed.cert = ("weighted", weighting, marks)
+            found.append(treed)
+    return found
 
 
 def make_orders(rng, base):
@@ -111,6 +128,15 @@ def is_no_report(outcome, line):
     return outcome.key() == (6, b"", b"pallet: not a report, line %d\n" % line)
 
 
+def shown_by(entry, verdict):
+    """How the bound is shown, or not shown, for the counts."""
+    if verdict not in ("yes", "no bound 0"):
+        return ""
+    if entry.cert[0] != "weighted":
+        return ", " + entry.cert[0]
+    return ", %s and %s" % (entry.cert[1][0], "one mark" if len(entry.cert[2]) == 1 else "a tree")
+
+
 def try_check(rng, data, tally):
     words = ["check"]
     if rng.random() < 0.3:
@@ -125,8 +151,8 @@ def try_check(rng, data, tally):
             raise Find("the second reader: no report, line %d; the program: %r" % (wrong.line, outcome)) from None
         return
     verdicts = [verdict_of(entry) for entry in entries]
-    for verdict in verdicts:
-        tally["verdict " + verdict.rstrip("0123456789 ")] += 1
+    for entry, verdict in zip(entries, verdicts):
+        tally["verdict " + verdict.rstrip("0123456789 ") + shown_by(entry, verdict)] += 1
     found = any(verdict.startswith("no") for verdict in verdicts)
     if outcome.key() != (int(found), verdicts_text(entries, verdicts), SAID[found]):
         raise Find("the second judge: %r; the program: %r" % (verdicts, outcome))

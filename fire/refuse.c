@@ -14,7 +14,7 @@
 #include <stddef.h>
 #include <stdio.h>
 #include <stdlib.h>
-#include <string.h>
+#include <sys/syscall.h>
 #include <unistd.h>
 
 static void *(*next_malloc)(size_t);
@@ -82,9 +82,17 @@ __attribute__((destructor)) static void end(void) {
     int file = open(count_path, O_WRONLY | O_CREAT | O_TRUNC, 0600);
     int length = snprintf(text, sizeof text, "%lu\n", calls);
     if (file < 0 || write(file, text, (size_t)length) != length) {
-        _exit(99);
+        syscall(SYS_exit_group, 99);
     }
     close(file);
+}
+
+/* A program may end by this call, at which no destructor runs. */
+void _exit(int status) {
+    end();
+    for (;;) {
+        syscall(SYS_exit_group, status);
+    }
 }
 
 void *malloc(size_t size) {
