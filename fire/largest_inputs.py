@@ -304,7 +304,7 @@ def try_too_long(measured):
 
 def trial_text(number):
     """What a trial of a number has to write, from what `plan` writes for its sixteen rows."""
-    data = program.HEADER + b"".join(b"t%d,%s\n" % (k, row) for k, row in enumerate(plan_look.trial_rows(number), 1))
+    data = GAP_HEADER + b"".join(b"t%d,%s\n" % (k, row) for k, row in enumerate(plan_look.trial_rows(number), 1))
     outcome = program.run(["plan"], data)
     wrong, entries = plan_look.looks_wrong(data, outcome, False)
     if wrong:
