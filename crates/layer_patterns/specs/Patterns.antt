@@ -59,12 +59,17 @@ EllBlock I a b = EllAll I (rectangle a b)
 abbrev pub ReachesEll : Inst → ℕ → Type 0
 ReachesEll I count = IsEllSized I → Reaches EllBlock I count
 
--- The count is at least each number of these patterns: the two grids; the first level of five blocks; four blocks,
--- five blocks, and L-regions, each where the sides have few enough normal places for them.
-pub record HoldsPatterns (I : Inst) (count : ℕ) : Type 0 where
+-- The count is at least each number of these patterns of blocks: the two grids; the first level of five blocks; four
+-- blocks, and five blocks, where the sides have few enough normal places for them.
+pub record HoldsBlocks (I : Inst) (count : ℕ) : Type 0 where
   pub lying : grid_count I Lying ≤ count
   pub standing : grid_count I Standing ≤ count
   pub first_level : ReachesFirst I count
   pub four_blocks : ReachesFour I count
   pub five_blocks : ReachesFive I count
+
+-- the count is at least each number of the patterns of blocks and, where the sides have few enough normal places for
+-- them, of L-regions
+pub record HoldsPatterns (I : Inst) (count : ℕ) : Type 0 where
+  pub blocks : HoldsBlocks I count
   pub ell_regions : ReachesEll I count

@@ -3,12 +3,13 @@
 
 mod planning;
 
-pub use planning::layer_by_patterns;
+pub use planning::{layer_by_blocks, layer_by_regions};
 
 #[cfg(test)]
 mod tests {
-    use crate::layer_by_patterns;
-    use plan_geometry::{Inst, Spot, Way, area_bound};
+    use crate::{layer_by_blocks, layer_by_regions};
+    use plan_geometry::{Inst, Layer, Spot, Way, area_bound};
+    use std::alloc::Global;
     use std::test::Fail;
 
     fn spot(x: u32, y: u32, way: Way) -> Spot {
@@ -22,7 +23,7 @@ mod tests {
         if most > 1000 {
             return Err("too many cases".into());
         }
-        let layer = layer_by_patterns(rt.alloc(), inst, most)?;
+        let layer = layer_by_blocks(rt.alloc(), inst, most)?;
         let round = [
             spot(0, 0, Way::Lying),
             spot(3, 0, Way::Standing),
@@ -47,22 +48,28 @@ mod tests {
             if most > 1000 {
                 return Err("too many cases".into());
             }
-            let layer = layer_by_patterns(rt.alloc(), inst, most)?;
+            let layer = layer_by_blocks(rt.alloc(), inst, most)?;
             assert_eq!(rt; layer.count(), count);
         }
         Ok(())
+    }
+
+    // The layer by blocks, and then by L-regions.
+    fn layer_of(alloc: Global, inst: Inst) -> Result<Layer, Fail> {
+        let most = area_bound(inst);
+        if most > 1000 {
+            return Err("too many cases".into());
+        }
+        let layer = layer_by_blocks(alloc, inst, most)?;
+        let layer = layer_by_regions(alloc, inst, most, layer)?;
+        Ok(layer)
     }
 
     // No five blocks hold 53 cases here, and the cells allow no more.
     #[test]
     fn of_ell_regions(rt: HostRuntime) -> Result<(), Fail> {
         let inst = Inst::new(43, 26, 7, 3).ok_or("sides")?;
-        let most = area_bound(inst);
-        if most > 1000 {
-            return Err("too many cases".into());
-        }
-        let layer = layer_by_patterns(rt.alloc(), inst, most)?;
-        assert_eq!(rt; layer.count(), 53);
+        assert_eq!(rt; layer_of(rt.alloc(), inst)?.count(), 53);
         Ok(())
     }
 
@@ -70,12 +77,7 @@ mod tests {
     #[test]
     fn too_many_places(rt: HostRuntime) -> Result<(), Fail> {
         let inst = Inst::new(405, 3, 2, 2).ok_or("sides")?;
-        let most = area_bound(inst);
-        if most > 1000 {
-            return Err("too many cases".into());
-        }
-        let layer = layer_by_patterns(rt.alloc(), inst, most)?;
-        assert_eq!(rt; layer.count(), 202);
+        assert_eq!(rt; layer_of(rt.alloc(), inst)?.count(), 202);
         Ok(())
     }
 }

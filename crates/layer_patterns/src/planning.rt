@@ -3,7 +3,7 @@ ghost use Rattle.plan_geometry.specs.Layout.{IsBounded};
 ghost use Rattle.plan_geometry.specs.Placed.{IsLayer};
 ghost use Rattle.raster_points.specs.Points.{ArePointsOf};
 ghost use Rattle.block_tree.specs.Trees.{held_count};
-ghost use Rattle.layer_patterns.specs.Patterns.{AreNormalPlaces, ReachesFirst, ReachesFour, ReachesFive, ReachesEll, HoldsPatterns};
+ghost use Rattle.layer_patterns.specs.Patterns.{AreNormalPlaces, ReachesFirst, ReachesFour, ReachesFive, ReachesEll, HoldsBlocks};
 
 use block_tree::BlockTree;
 use five_block::{five_closure, is_five_size, level_one};
@@ -145,7 +145,7 @@ fn after_ell_regions(
     improved(alloc, layer, &answer.tree)
 }
 
-// The layer so far, or that of four blocks, of five or of L-regions.
+// The layer so far, or that of four blocks or of five.
 fn after_closures(alloc: Global, inst: Inst, most: u32, layer: Layer) -> Result<Layer, Memory>
     requires most { IsBounded inst most }
     requires layer { IsLayer layer.inst layer.spots }
@@ -155,7 +155,6 @@ fn after_closures(alloc: Global, inst: Inst, most: u32, layer: Layer) -> Result<
     ensures grown { IfOk result (λ a. length layer.spots ≤ length a.spots) }
     ensures four { IfOk result (λ a. ReachesFour inst (length a.spots)) }
     ensures five { IfOk result (λ a. ReachesFive inst (length a.spots)) }
-    ensures ell { IfOk result (λ a. ReachesEll inst (length a.spots)) }
 {
     if is_full(&layer, most) {
         return Ok(layer);
@@ -163,22 +162,40 @@ fn after_closures(alloc: Global, inst: Inst, most: u32, layer: Layer) -> Result<
     let px = Points::of(alloc, inst.l_side, inst.long, inst.short)?;
     let py = Points::of(alloc, inst.w_side, inst.long, inst.short)?;
     let layer = after_four_blocks(alloc, inst, &px, &py, most, layer)?;
-    let layer = after_five_blocks(alloc, inst, &px, &py, most, layer)?;
-    after_ell_regions(alloc, inst, &px, &py, most, layer)
+    after_five_blocks(alloc, inst, &px, &py, most, layer)
 }
 
 /// A layer of the pallet. It starts as the better grid; while it has fewer than `most` cases, which no layout exceeds,
-/// the first level of five blocks, four blocks, five blocks and L-regions are tried in turn, each where the sides have
-/// few enough normal places for it, and a layer with more cases takes its place.
-pub fn layer_by_patterns(alloc: Global, inst: Inst, most: u32) -> Result<Layer, Memory>
+/// the first level of five blocks, four blocks and five blocks are tried in turn, the last two where the sides have few
+/// enough normal places for them, and a layer with more cases takes its place.
+pub fn layer_by_blocks(alloc: Global, inst: Inst, most: u32) -> Result<Layer, Memory>
     requires most { IsBounded inst most }
     requires few { most ≤ 1000 }
     ensures inst { IfOk result (λ a. a.inst ≡ inst) }
     ensures layer { IfOk result (λ a. IsLayer a.inst a.spots) }
     ensures bounded { IfOk result (λ a. length a.spots ≤ most) }
-    ensures patterns { IfOk result (λ a. HoldsPatterns inst (length a.spots)) }
+    ensures blocks { IfOk result (λ a. HoldsBlocks inst (length a.spots)) }
 {
     let layer = uniform(alloc, inst)?;
     let layer = after_first_level(alloc, inst, most, layer)?;
     after_closures(alloc, inst, most, layer)
+}
+
+/// The layer so far, or one of more cases by L-regions, which are tried where the layer has fewer than `most` cases,
+/// which no layout exceeds, and the sides have few enough normal places.
+pub fn layer_by_regions(alloc: Global, inst: Inst, most: u32, layer: Layer) -> Result<Layer, Memory>
+    requires most { IsBounded inst most }
+    requires layer { IsLayer layer.inst layer.spots }
+    requires inst { layer.inst ≡ inst }
+    ensures inst { IfOk result (λ a. a.inst ≡ inst) }
+    ensures layer { IfOk result (λ a. IsLayer a.inst a.spots) }
+    ensures grown { IfOk result (λ a. length layer.spots ≤ length a.spots) }
+    ensures ell { IfOk result (λ a. ReachesEll inst (length a.spots)) }
+{
+    if is_full(&layer, most) {
+        return Ok(layer);
+    }
+    let px = Points::of(alloc, inst.l_side, inst.long, inst.short)?;
+    let py = Points::of(alloc, inst.w_side, inst.long, inst.short)?;
+    after_ell_regions(alloc, inst, &px, &py, most, layer)
 }

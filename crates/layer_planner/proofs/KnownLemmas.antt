@@ -14,7 +14,7 @@ use Rattle.weightings.specs.Lead.{IsLead}
 use Rattle.cert_rules.specs.Refute.{IsRefutation}
 use Rattle.strip_cuts.specs.Cuts.{AcceptsStrip}
 use Rattle.strip_bound.specs.CutLists.{IsStripOf}
-use Rattle.layer_patterns.specs.Patterns.{HoldsPatterns}
+use Rattle.layer_patterns.specs.Patterns.{ReachesEll, HoldsBlocks, HoldsPatterns}
 use Rattle.layer_planner.specs.declared.bounds.Known.{Known}
 use Rattle.layer_planner.specs.Quality.{most_states, IsAtMostFamily, IsAtMostStrip, IsAtMostDual, HasLongWalk}
 use Rattle.layer_planner.specs.Searched.{IsGrown, IsTooLong}
@@ -66,13 +66,22 @@ grid-strip I n le = λ m h. let w = grid-within I m (strip-bounds I m h) in omeg
 -- ---- the layer
 
 -- more cases reach what fewer do
-pub patterns-more : (I : Inst) (m n : ℕ) → m ≤ n → HoldsPatterns I m → HoldsPatterns I n
-patterns-more I m n le h = record {
+blocks-more : (I : Inst) (m n : ℕ) → m ≤ n → HoldsBlocks I m → HoldsBlocks I n
+blocks-more I m n le h = record {
   lying = omega (arith, le, h.lying);
   standing = omega (arith, le, h.standing);
   first_level = λ k f. let x = h.first_level k f in omega (arith, le, x);
   four_blocks = λ z a b k x y p. let w = h.four_blocks z a b k x y p in omega (arith, le, w);
   five_blocks = λ z a b k x y p. let w = h.five_blocks z a b k x y p in omega (arith, le, w);
+}
+
+-- where blocks reach m cases, and L-regions n
+pub patterns-of : (I : Inst) (m n : ℕ) → m ≤ n → HoldsBlocks I m → ReachesEll I n → HoldsPatterns I n
+patterns-of I m n le h e = record { blocks = blocks-more I m n le h; ell_regions = e }
+
+pub patterns-more : (I : Inst) (m n : ℕ) → m ≤ n → HoldsPatterns I m → HoldsPatterns I n
+patterns-more I m n le h = record {
+  blocks = blocks-more I m n le h.blocks;
   ell_regions = λ z a b k x y p. let w = h.ell_regions z a b k x y p in omega (arith, le, w);
 }
 
@@ -106,7 +115,7 @@ settled given reduced k start layer a g d =
     record {
       inst = g.inst;
       layer = g.layer;
-      some = some-case reduced (length layer.spots) a.fits p.lying p.standing;
+      some = some-case reduced (length layer.spots) a.fits p.blocks.lying p.blocks.standing;
       within = g.within;
       known = a.known;
       family = a.family;

@@ -1,14 +1,12 @@
 -- Tables: what makes one accepted, that it has a text, and how its bound stands to those of layers and of other tables.
-use Rattle.std.proofs.Common.{◌≡◌, ℕ, Bool, true, ◌+◌, ◌*◌, ◌/◌, ◌≤◌, List, ◌∷◌, [], ◌∙◌, Some, None, length, ap, sym, subst, refl, leb, eq-eqb, arith, inl, inr}
-use Rattle.std.specs.Prelude.{◌&&◌}
+use Rattle.std.proofs.Common.{◌≡◌, ℕ, true, ◌*◌, ◌≤◌, List, ◌∷◌, [], ◌∙◌, Some, None, length, ap, sym, subst, refl, leb, eq-eqb, arith, inr}
 use Rattle.std.specs.List.{list_all}
 use Rattle.std.proofs.Math.Nat.{mul_comm}
 use Rattle.std.proofs.lemmas.Bool.{le-leb}
 use Rattle.std.proofs.lemmas.List.Sums.{list_all-from_AllPass}
 use Rattle.plan_geometry.specs.declared.spots.Spot.{Spot}
 use Rattle.plan_geometry.specs.declared.instances.Inst.{Inst}
-use Rattle.plan_geometry.specs.Layout.{IsLayout, IsBounded}
-use Rattle.plan_geometry.specs.Weight.{total_weight}
+use Rattle.plan_geometry.specs.Layout.{IsLayout}
 use Rattle.plan_geometry.proofs.Counting.{bounded_by_weight}
 use Rattle.partitions.specs.Partitions.{SameSides}
 use Rattle.weightings.specs.declared.kinds.Weighting.TheVariants.{Table}
@@ -20,7 +18,7 @@ use Rattle.weightings.proofs.LeadSteps.{IsWeightBound-unique}
 use Rattle.dual_search.specs.Dual.{IsDual}
 use Rattle.dual_search.proofs.OneDual.{one_dual}
 use Rattle.cert_text.specs.declared.forms.Form.TheVariants.{Two}
-use Rattle.cert_text.specs.Ranges.{are_sides, are_weights, is_weighting, is_tree}
+use Rattle.cert_text.specs.Ranges.{are_sides, are_weights, is_weighting}
 use Rattle.layer_planner.specs.declared.bounds.Known.{Known}
 use Rattle.layer_planner.specs.Quality.{IsAtMostDual}
 use Rattle.layer_planner.specs.Known.{IsKnown}

@@ -1,5 +1,5 @@
 -- Bounds that are known, and a layer with the bound that is left of them.
-use Rattle.std.specs.Prelude.{◌≡◌, ◌≤◌, ◌⊎◌, length}
+use Rattle.std.specs.Prelude.{◌≡◌, ℕ, ◌≤◌, ◌⊎◌, length}
 use Rattle.plan_geometry.specs.declared.instances.Inst.{Inst}
 use Rattle.plan_geometry.specs.Layout.{area_bound_of}
 use Rattle.plan_geometry.specs.Placed.{IsLayer}
@@ -16,6 +16,16 @@ pub record IsKnown (given reduced : Inst) (known : Known) : Type 0 where
   pub accepted : Accepts given reduced known.cert known.bound
   pub short : HasShortCert reduced known.cert
   pub in_range : known.bound ≤ 1000 → InRange Two known.cert
+
+-- A layer of the reduced instance that has at least the cases of each pattern, and a bound with what shows it: the bound
+-- is no more than that one, and at most that of the game's table.
+pub record IsPlaced (given reduced : Inst) (most : ℕ) (s : Settled) : Type 0 where
+  pub inst : s.layer.inst ≡ reduced
+  pub layer : IsLayer s.layer.inst s.layer.spots
+  pub known : IsKnown given reduced s.known
+  pub less : s.known.bound ≤ most
+  pub dual : IsAtMostDual reduced s.known.bound
+  pub patterns : HoldsPatterns reduced (length s.layer.spots)
 
 -- A layer of the reduced instance, and a bound with what shows it: the bound is at most each that is looked for,
 -- the layer has at least the cases of each pattern, and no walk for one case more is left to be gone.

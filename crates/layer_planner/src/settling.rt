@@ -2,12 +2,12 @@
 ghost use Rattle.std.specs.Prelude.{◌≡◌, ◌≤◌, IfOk};
 ghost use Rattle.plan_geometry.specs.Layout.{CaseFits, area_bound_of};
 ghost use Rattle.partitions.specs.Partitions.{SameSides};
-ghost use Rattle.layer_planner.specs.Known.{IsSettled};
+ghost use Rattle.layer_planner.specs.Known.{IsKnown, IsPlaced, IsSettled};
 
 use crate::bounds::{Known, least_known};
 use crate::search::{Searched, search};
-use crate::tables::or_tables;
-use layer_patterns::layer_by_patterns;
+use crate::tables::{or_dual, or_table_toward};
+use layer_patterns::{layer_by_blocks, layer_by_regions};
 use plan_geometry::{Inst, Layer};
 use plan_memory::Memory;
 use std::alloc::Global;
@@ -18,6 +18,24 @@ use weightings::{Cert, lead};
 pub struct Settled {
     pub layer: Layer,
     pub known: Known,
+}
+
+// The layer of the best pattern, and the bound so far or a lesser one that a table shows. Tables are looked for before
+// L-regions are, which take longer, and again where these give more cases.
+fn place(alloc: Global, given: Inst, reduced: Inst, known: Known) -> Result<Settled, Memory>
+    requires same { SameSides given reduced }
+    requires fits { CaseFits reduced }
+    requires few { known.bound ≤ 1000 }
+    requires known { IsKnown given reduced known }
+    ensures { IfOk result (λ s. IsPlaced given reduced known.bound s) }
+{
+    let layer = layer_by_blocks(alloc, reduced, known.bound)?;
+    let known = or_table_toward(alloc, given, reduced, known, &layer, 0)?;
+    let by_blocks = layer.count();
+    let layer = layer_by_regions(alloc, reduced, known.bound, layer)?;
+    let known = or_table_toward(alloc, given, reduced, known, &layer, by_blocks)?;
+    let known = or_dual(alloc, given, reduced, known, &layer)?;
+    Ok(Settled { layer, known })
 }
 
 /// The layer of the best pattern, and then of the search, and the least bound: that of the search where it ends, else the
@@ -31,9 +49,9 @@ pub fn settle(alloc: Global, given: Inst, reduced: Inst) -> Result<Settled, Memo
 {
     let lead = lead(reduced);
     let known = least_known(alloc, given, reduced, &lead)?;
-    let layer = layer_by_patterns(alloc, reduced, known.bound)?;
-    let known = or_tables(alloc, given, reduced, known, &layer)?;
-    let found = search(alloc, reduced, &lead, known.bound, layer)?;
+    let placed = place(alloc, given, reduced, known)?;
+    let known = placed.known;
+    let found = search(alloc, reduced, &lead, known.bound, placed.layer)?;
     match found {
         Searched::Reached { layer } => Ok(Settled { layer, known }),
         Searched::Spent { layer } => Ok(Settled { layer, known }),

@@ -56,21 +56,27 @@ fn lesser(given: Inst, reduced: Inst, first: Known, second: Known) -> Known
     if stays { first } else { second }
 }
 
-// The bound so far, or a lesser one of the table that comes nearest to so many cases.
-fn or_table_toward(
+/// The bound so far, or a lesser one of the table that comes nearest to the number of the layer's cases. A table is looked
+/// for where the layer has more cases than one was looked for before, and fewer than the bound, on a pallet of at most
+/// 40,000 cells.
+pub fn or_table_toward(
     alloc: Global,
     given: Inst,
     reduced: Inst,
     known: Known,
-    count: u32,
+    layer: &Layer,
+    before: u32,
 ) -> Result<Known, Memory>
     requires same { SameSides given reduced }
     requires fits { CaseFits reduced }
-    requires few { reduced.l_side * reduced.w_side ≤ 40000 }
     requires known { IsKnown given reduced known }
     ensures known { IfOk result (λ k. IsKnown given reduced k) }
     ensures less { IfOk result (λ k. k.bound ≤ known.bound) }
 {
+    let count = layer.count();
+    if count <= before || known.bound <= count || !has_few_cells(reduced) {
+        return Ok(known);
+    }
     let Some(table) = table_toward(alloc, reduced, count)? else {
         return Ok(known);
     };
@@ -78,27 +84,9 @@ fn or_table_toward(
     Ok(lesser(given, reduced, known, tabled))
 }
 
-// The bound so far, or a lesser one of the best table of the game of best answers.
-fn or_dual(alloc: Global, given: Inst, reduced: Inst, known: Known) -> Result<Known, Memory>
-    requires same { SameSides given reduced }
-    requires fits { CaseFits reduced }
-    requires few { reduced.l_side * reduced.w_side ≤ 40000 }
-    requires known { IsKnown given reduced known }
-    ensures known { IfOk result (λ k. IsKnown given reduced k) }
-    ensures less { IfOk result (λ k. k.bound ≤ known.bound) }
-    ensures dual { IfOk result (λ k. IsAtMostDual reduced k.bound) }
-{
-    let Some(table) = dual(alloc, reduced, MOST_ROUNDS)? else {
-        return Ok(known);
-    };
-    let tabled = by_table(alloc, given, reduced, table)?;
-    Ok(lesser(given, reduced, known, tabled))
-}
-
-/// The bound so far, or a lesser one that a table of weights shows. Tables are looked for while the layer has fewer
-/// cases than the bound so far, on a pallet of at most 40,000 cells: first toward the layer's own count, then by the
-/// game of best answers.
-pub fn or_tables(
+/// The bound so far, or a lesser one of the best table of the game of best answers. It is played where the layer has fewer
+/// cases than the bound, on a pallet of at most 40,000 cells.
+pub fn or_dual(
     alloc: Global,
     given: Inst,
     reduced: Inst,
@@ -118,9 +106,9 @@ pub fn or_tables(
     if known.bound <= count || !has_few_cells(reduced) {
         return Ok(known);
     }
-    let known = or_table_toward(alloc, given, reduced, known, count)?;
-    if known.bound <= count {
+    let Some(table) = dual(alloc, reduced, MOST_ROUNDS)? else {
         return Ok(known);
-    }
-    or_dual(alloc, given, reduced, known)
+    };
+    let tabled = by_table(alloc, given, reduced, table)?;
+    Ok(lesser(given, reduced, known, tabled))
 }

@@ -1,6 +1,6 @@
 use crate::plan_order;
 use crate::search::{Searched, search};
-use layer_patterns::layer_by_patterns;
+use layer_patterns::layer_by_blocks;
 use layer_symmetry::Move;
 use minimum_size::reduce;
 use order_reader::Order;
@@ -116,12 +116,15 @@ fn own_places(rt: HostRuntime) -> Result<(), Fail> {
 // How a search for one case more than the patterns of blocks reach ends.
 fn searched(alloc: Global, sides: [u32; 4]) -> Result<Searched, Fail> {
     let given = Inst::new(sides[0], sides[1], sides[2], sides[3]).ok_or("sides")?;
+    if !case_fits(given) {
+        return Err("no case fits".into());
+    }
     let inst = reduce(given);
     let most = area_bound(inst);
-    if most > 999 || !case_fits(inst) {
-        return Err("no layer".into());
+    if most > 999 {
+        return Err("too many cases".into());
     }
-    let layer = layer_by_patterns(alloc, inst, most)?;
+    let layer = layer_by_blocks(alloc, inst, most)?;
     let lead = lead(inst);
     let more = layer.count() + 1;
     let answer = search(alloc, inst, &lead, more, layer)?;
