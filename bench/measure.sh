@@ -27,9 +27,30 @@ for example in "$top"/examples/*.csv; do
     cp "$work/out" "$work/report"
     least "check of that report" "$work/report" check
 done
-for sides in 43,26,7,3 61,38,10,3 71,57,13,4 12,191,6,1 14,13,4,3 15,14,9,2 19,12,7,2 4000,12,4000,1 1000,1,1,1; do
-    printf '%s\nA,%s,1,1,1,1,0,0,100\n' "$header" "$sides" >"$work/orders.csv"
-    least "plan $sides" "$work/orders.csv" plan
+plan_and_check() {
+    printf '%s\nA,%s,1,1,1,1,0,0,100\n' "$header" "$1" >"$work/orders.csv"
+    least "plan $1" "$work/orders.csv" plan
     cp "$work/out" "$work/report"
     least "check of that report" "$work/report" check
+}
+
+echo "Orders that L-regions close:"
+for sides in 43,26,7,3 61,38,10,3 63,44,8,5 61,35,10,3 74,49,11,4 93,46,13,4 106,59,13,5 108,65,10,7 141,71,13,8 104,69,12,7; do
+    plan_and_check "$sides"
 done
+echo "Orders that tables close:"
+for sides in 12,11,7,2 19,12,7,2 47,27,10,3 54,37,10,3 66,51,9,7 87,48,11,6 49,42,8,5; do
+    plan_and_check "$sides"
+done
+echo "Orders with a large pallet, many cases or thin ones:"
+for sides in 71,57,13,4 12,191,6,1 37,18,13,3 26,20,7,4 4000,12,4000,1 1000,1,1,1 199,197,31,23 1200,1000,73,47 3999,3001,113,107; do
+    plan_and_check "$sides"
+done
+
+# A report whose certificate is a table of 40,000 cells: that of the area, in which each cell weighs 1.
+printf '%s\nA,200,200,8,7,1,1,1,1,0,0,100\n' "$header" >"$work/orders.csv"
+"$program" plan <"$work/orders.csv" >"$work/out" || true
+awk '/^reduced/ { x = $2; y = $3 }
+    /^weighting/ { print "weighting table", x, y; for (j = 0; j < y; j++) { line = "row"; for (i = 0; i < x; i++) line = line " 1"; print line }; next }
+    { print }' "$work/out" >"$work/report"
+least "check of a table of $(awk '/^weighting table/ { print $3 * $4 }' "$work/report") cells" "$work/report" check

@@ -14,7 +14,7 @@ mod trials;
 
 pub use duals::{MOST_ROUNDS, dual};
 pub use laws::dual_is_one;
-pub use toward::table_toward;
+pub use toward::{MOST_TURNS, table_toward};
 
 #[cfg(test)]
 mod tests;

@@ -1,4 +1,4 @@
-use crate::{MOST_ROUNDS, dual, table_toward};
+use crate::{MOST_ROUNDS, MOST_TURNS, dual, table_toward};
 use plan_geometry::{Inst, case_fits};
 use plan_memory::Memory;
 use std::alloc::Global;
@@ -65,7 +65,7 @@ fn four_rounds(rt: HostRuntime) -> Result<(), Fail> {
 // The bound of the table that is found.
 fn bound_toward(alloc: Global, inst: Inst, target: u32) -> Result<Option<u32>, Memory> {
     if case_fits(inst) && inst.l_side <= 200 && inst.w_side <= 200 {
-        match table_toward(alloc, inst, target)? {
+        match table_toward(alloc, inst, target, MOST_TURNS)? {
             Some(found) => match measures(inst, found) {
                 Some((_, _, bound)) => Ok(bound),
                 None => Ok(None),

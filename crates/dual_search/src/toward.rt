@@ -20,10 +20,11 @@ use weightings::WeightTable;
 // How many turns are made between two looks.
 const TURNS: u32 = 40;
 
-// The most turns, and the most times that a cell is passed.
-const MOST_TURNS: u32 = 20_000;
+/// The most turns of a search.
+pub const MOST_TURNS: u32 = 20_000;
 
-const MOST_PASSES: u32 = 400_000_000;
+// The most times that a cell is passed.
+const MOST_PASSES: u32 = 300_000_000;
 
 // How many turns a flow makes before it is restarted in any case.
 const LONGEST: u64 = 4_000;
@@ -234,8 +235,13 @@ fn look(alloc: Global, inst: Inst, flow: &mut Flow, best: Finding) -> Result<Fin
 /// program that packs parts of cases into whole positions. Weights and levels are led towards the best of both in
 /// small steps (Chambolle and Pock 2011), with restarts from their averages (Applegate and others 2021), in whole
 /// numbers alone; each table that seems to be good is judged by its exact bound. The search ends early where the levels
-/// show that no table is better, and at the latest after 20,000 steps, or less on large pallets.
-pub fn table_toward(alloc: Global, inst: Inst, target: u32) -> Result<Option<WeightTable>, Memory>
+/// show that no table is better, and at the latest after `most_turns` and 20,000 steps, or less on large pallets.
+pub fn table_toward(
+    alloc: Global,
+    inst: Inst,
+    target: u32,
+    most_turns: u32,
+) -> Result<Option<WeightTable>, Memory>
     requires fits { CaseFits inst }
     requires few { inst.l_side * inst.w_side ≤ 40000 }
     ensures sides { IfOk result (λ answer. IfSome answer
@@ -249,7 +255,8 @@ pub fn table_toward(alloc: Global, inst: Inst, target: u32) -> Result<Option<Wei
         table: None,
     };
     let cells = (inst.l_side * inst.w_side).max(1);
-    for _look in 0..(MOST_PASSES / cells).min(MOST_TURNS) / TURNS {
+    let most_turns = most_turns.min(MOST_TURNS).min(MOST_PASSES / cells);
+    for _look in 0..most_turns / TURNS {
         turns(inst, &mut flow, TURNS);
         best = look(alloc, inst, &mut flow, best)?;
         let done = u64::from(best.bound) <= u64::from(target).max(flow.packed);

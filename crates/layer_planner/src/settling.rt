@@ -7,6 +7,7 @@ ghost use Rattle.layer_planner.specs.Known.{IsKnown, IsPlaced, IsSettled};
 use crate::bounds::{Known, least_known};
 use crate::search::{Searched, search};
 use crate::tables::{or_dual, or_table_toward};
+use dual_search::MOST_TURNS;
 use layer_patterns::{layer_by_blocks, layer_by_regions};
 use plan_geometry::{Inst, Layer};
 use plan_memory::Memory;
@@ -20,8 +21,11 @@ pub struct Settled {
     pub known: Known,
 }
 
-// The layer of the best pattern, and the bound so far or a lesser one that a table shows. Tables are looked for before
-// L-regions are, which take longer, and again where these give more cases.
+// How many turns the first search of tables makes: nearly every order that a table closes is closed by then.
+const FIRST_TURNS: u32 = 2_400;
+
+// The layer of the best pattern, and the bound so far or a lesser one that a table shows. A short search of tables comes
+// before that of L-regions, which takes longer, and a long one behind it.
 fn place(alloc: Global, given: Inst, reduced: Inst, known: Known) -> Result<Settled, Memory>
     requires same { SameSides given reduced }
     requires fits { CaseFits reduced }
@@ -30,10 +34,9 @@ fn place(alloc: Global, given: Inst, reduced: Inst, known: Known) -> Result<Sett
     ensures { IfOk result (λ s. IsPlaced given reduced known.bound s) }
 {
     let layer = layer_by_blocks(alloc, reduced, known.bound)?;
-    let known = or_table_toward(alloc, given, reduced, known, &layer, 0)?;
-    let by_blocks = layer.count();
+    let known = or_table_toward(alloc, given, reduced, known, &layer, FIRST_TURNS)?;
     let layer = layer_by_regions(alloc, reduced, known.bound, layer)?;
-    let known = or_table_toward(alloc, given, reduced, known, &layer, by_blocks)?;
+    let known = or_table_toward(alloc, given, reduced, known, &layer, MOST_TURNS)?;
     let known = or_dual(alloc, given, reduced, known, &layer)?;
     Ok(Settled { layer, known })
 }

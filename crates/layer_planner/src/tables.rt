@@ -56,16 +56,15 @@ fn lesser(given: Inst, reduced: Inst, first: Known, second: Known) -> Known
     if stays { first } else { second }
 }
 
-/// The bound so far, or a lesser one of the table that comes nearest to the number of the layer's cases. A table is looked
-/// for where the layer has more cases than one was looked for before, and fewer than the bound, on a pallet of at most
-/// 40,000 cells.
+/// The bound so far, or a lesser one of the table that comes nearest to the number of the layer's cases in so many turns. A
+/// table is looked for where the layer has fewer cases than the bound, on a pallet of at most 40,000 cells.
 pub fn or_table_toward(
     alloc: Global,
     given: Inst,
     reduced: Inst,
     known: Known,
     layer: &Layer,
-    before: u32,
+    most_turns: u32,
 ) -> Result<Known, Memory>
     requires same { SameSides given reduced }
     requires fits { CaseFits reduced }
@@ -74,10 +73,10 @@ pub fn or_table_toward(
     ensures less { IfOk result (λ k. k.bound ≤ known.bound) }
 {
     let count = layer.count();
-    if count <= before || known.bound <= count || !has_few_cells(reduced) {
+    if count >= known.bound || !has_few_cells(reduced) {
         return Ok(known);
     }
-    let Some(table) = table_toward(alloc, reduced, count)? else {
+    let Some(table) = table_toward(alloc, reduced, count, most_turns)? else {
         return Ok(known);
     };
     let tabled = by_table(alloc, given, reduced, table)?;
