@@ -2,7 +2,7 @@
 """Refuses memory to the built program, at each of its calls for memory in turn, and looks at what it then does.
 
 The program asks the C library for memory (malloc, realloc); fire/refuse.c stands before it and answers null at a chosen
-call, or at each call from a chosen one on. For each of the runs below and each such call: the run has to give the full
+call, or at each call from a chosen one on. For each of the runs below and each such call (of one long run, for each 116th): the run has to give the full
 answer, the same bytes and the same status as where nothing is refused, or end with status 9, and then what was written has
 to be one of: nothing; of `plan` and `upgrade` the first line and whole entries behind it; of `check` whole verdict lines; of
 `trial` nothing. Needs `cc` and a program that is linked to the C library at run time. The last line is of totals; the status
@@ -41,8 +41,8 @@ def broken_off(words, full):
 class Walk:
     """One run of the program, with each of its calls for memory refused in turn."""
 
-    def __init__(self, words, data, name, status=0, threads=False):
-        self.words, self.data, self.name, self.threads = words, data, name, threads
+    def __init__(self, words, data, name, status=0, threads=False, most=10000):
+        self.words, self.data, self.name, self.threads, self.most = words, data, name, threads, most
         self.full = run(words, data)
         self.allowed = broken_off(words, self.full.written)
         self.finds = []
@@ -76,9 +76,10 @@ class Walk:
         return "find"
 
     def walk(self, shared, folder, jobs):
-        """Refuses each call, alone and with all later ones. Prints a line; returns how many runs were made."""
+        """Refuses each call, or so many of them, alone and with all later ones. Prints a line; returns how many runs were made."""
         calls = self.calls(shared, folder)
-        ways = [(at, on) for on in (False, True) for at in range(1, calls + 1)]
+        chosen = range(1, calls + 1, 1 + calls // self.most)
+        ways = [(at, on) for on in (False, True) for at in chosen]
         with ThreadPoolExecutor(jobs) as pool:
             outcomes = list(pool.map(lambda way: self.refused(shared, *way), ways))
         counts = {kind: 0 for kind in ("full", "nothing", "part", "find")}
@@ -120,7 +121,15 @@ def walks():
         Walk(["plan"], dozen, "plan, dozen-orders.csv", 1),
         Walk(["check"], dozen_report, "check, dozen-orders.csv"),
         Walk(["check", "--workers", "4"], dozen_report, "check --workers 4, dozen-orders.csv", threads=True),
+        Walk(["plan"], rows_of("9,8,5,2", "12,11,7,2", "14,13,4,3"), "plan, strips and tables"),
+        Walk(["plan"], rows_of("43,26,7,3"), "plan, L-regions, some of the calls", most=200),
     ]
+
+
+def rows_of(*sides):
+    """An orders file of rows that the planner does not settle by the area alone."""
+    rows = [b"R,%s,1,1,9,100000000,50,1,60\n" % part.encode() for part in sides]
+    return program.HEADER + b"".join(rows)
 
 
 def main():

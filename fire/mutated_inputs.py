@@ -11,7 +11,8 @@ Looked at is, for each input: the program ends by itself, with a status that doc
 standard error; `check` writes exactly the verdicts of the second judge (second_look.py), or says that the text is no report
 at exactly the line that the second reader answers; `upgrade` writes exactly the entries that the second reader read; `plan`
 writes an entry for each row that the second reader of orders files finds, with its fault or with a plan on which the second
-judge says yes, and each such plan's instance is the least; some of the reports are then given to `check`. A difference
+judge says yes, and each such plan's instance is the least; some of the reports are then given to `check`. Of each plan
+that is right, on a pallet of at most 150 cells, all layers are tried: none has more cases than the bound. A difference
 is a find; the input is kept. The last line is of totals; the status is not 0 where anything was found.
 """
 
@@ -27,6 +28,7 @@ import traceback
 import mutations
 import plan_look
 import program
+from exhaustive import greatest_of
 from program import SAID, run
 from reports import NotAReport, Refused, read_report, report_text
 from second_look import verdict_of, verdicts_text
@@ -137,6 +139,15 @@ def shown_by(entry, verdict):
     return ", %s and %s" % (entry.cert[1][0], "one mark" if len(entry.cert[2]) == 1 else "a tree")
 
 
+def look_at_bound(entry, tally):
+    """The count is at most the greatest count there is, and the bound at least that, where it can be found by trying all layers."""
+    greatest = greatest_of(entry)
+    if greatest is not None:
+        tally["sound plans compared with all layers"] += 1
+        if not entry.count <= greatest <= entry.bound:
+            raise Find("entry %d: the greatest count is %d" % (entry.number, greatest))
+
+
 def try_check(rng, data, tally):
     words = ["check"]
     if rng.random() < 0.3:
@@ -153,6 +164,8 @@ def try_check(rng, data, tally):
     verdicts = [verdict_of(entry) for entry in entries]
     for entry, verdict in zip(entries, verdicts):
         tally["verdict " + verdict.rstrip("0123456789 ") + shown_by(entry, verdict)] += 1
+        if verdict == "yes":
+            look_at_bound(entry, tally)
     found = any(verdict.startswith("no") for verdict in verdicts)
     if outcome.key() != (int(found), verdicts_text(entries, verdicts), SAID[found]):
         raise Find("the second judge: %r; the program: %r" % (verdicts, outcome))
@@ -180,6 +193,9 @@ def try_plan(rng, data, tally):
     wrong, entries = plan_look.looks_wrong(data, outcome, draw)
     if wrong:
         raise Find("plan%s: %s" % (" --draw" if draw else "", wrong))
+    for entry in entries:
+        if not isinstance(entry, Refused):
+            look_at_bound(entry, tally)
     tally["rows planned"] += sum(not isinstance(entry, Refused) for entry in entries)
     tally["rows refused"] += sum(isinstance(entry, Refused) for entry in entries)
     if entries and not draw and rng.random() < 0.2:
