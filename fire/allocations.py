@@ -2,10 +2,10 @@
 """Refuses memory to the built program, at each of its calls for memory in turn, and looks at what it then does.
 
 The program asks the C library for memory (malloc, realloc); fire/refuse.c stands before it and answers null at a chosen
-call, or at each call from a chosen one on. For each of the runs below and each such call (of one long run, for each 116th): the run has to give the full
-answer, the same bytes and the same status as where nothing is refused, or end with status 9, and then what was written has
-to be one of: nothing; of `plan` and `upgrade` the first line and whole entries behind it; of `check` whole verdict lines; of
-`trial` nothing. Needs `cc` and a program that is linked to the C library at run time. The last line is of totals; the status
+call, or at each call from a chosen one on. For each of the runs below and each such call (of one long run, for some two
+hundred of them) the run has to give the full answer, the same bytes and the same status as where nothing is refused, or to
+end with status 9, and then what was written has to be one of: nothing; of `plan` and `upgrade` the first line and whole
+entries behind it; of `check` whole verdict lines; of `trial` nothing. Needs `cc` and a program that is linked to the C library at run time. The last line is of totals; the status
 is not 0 where anything else was seen.
 """
 

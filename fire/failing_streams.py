@@ -52,9 +52,11 @@ def try_mode(words, data, folder):
         file.write(data)
     name, full = " ".join(words), run(words, data)
     if words[0] != "trial":
-        with open(path, "rb") as file, open(os.devnull, "wb") as sink:
-            look(name + ", a source that cannot be read", run_on(words, os.open(folder, os.O_RDONLY), sink), (7, SAID[7]))
-            look(name + ", a closed source", closed(words, "<&-", path), (7, b"", SAID[7]))
+        unreadable = os.open(folder, os.O_RDONLY)
+        with open(os.devnull, "wb") as sink:
+            look(name + ", a source that cannot be read", run_on(words, unreadable, sink), (7, SAID[7]))
+        os.close(unreadable)
+        look(name + ", a closed source", closed(words, "<&-", path), (7, b"", SAID[7]))
     with open(path, "rb") as file, open("/dev/full", "wb") as sink:
         look(name + ", a sink that is full", run_on(words, file, sink), (8, SAID[8]))
     look(name + ", a closed sink", closed(words, ">&-", path), (8, b"", SAID[8]))
@@ -68,9 +70,14 @@ def try_mode(words, data, folder):
     look(name + ", a failing sink and a closed standard error", closed(words, ">/dev/full 2>&-", path), (8, b"", b""))
 
 
+def piped(words):
+    pipe = subprocess.PIPE
+    return subprocess.Popen([program.PROGRAM, *words], stdin=pipe, stdout=pipe, stderr=pipe, bufsize=0)
+
+
 def byte_by_byte(words, data):
     """A run whose input comes in single bytes."""
-    with subprocess.Popen([program.PROGRAM, *words], stdin=subprocess.PIPE, stdout=subprocess.PIPE, stderr=subprocess.PIPE, bufsize=0) as child:
+    with piped(words) as child:
         for place in range(len(data)):
             child.stdin.write(data[place:place + 1])
         child.stdin.close()
@@ -79,7 +86,7 @@ def byte_by_byte(words, data):
 
 def cut_off(words, data, count):
     """A run whose output is read for so many bytes and then closed: those bytes, and the status."""
-    with subprocess.Popen([program.PROGRAM, *words], stdin=subprocess.PIPE, stdout=subprocess.PIPE, stderr=subprocess.PIPE, bufsize=0) as child:
+    with piped(words) as child:
         child.stdin.write(data)
         child.stdin.close()
         taken = b""

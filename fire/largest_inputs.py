@@ -75,7 +75,9 @@ def yes_to(count):
 
 
 def orders_of(rows):
-    return GAP_HEADER + b"".join(b"L%d,%s\n" % (place, b",".join(b"%d" % number for number in row)) for place, row in enumerate(rows))
+    """An orders file of rows of twelve numbers."""
+    lines = [b",".join([b"L%d" % place] + [b"%d" % number for number in row]) for place, row in enumerate(rows)]
+    return GAP_HEADER + b"".join(line + b"\n" for line in lines)
 
 
 # ---- orders
@@ -192,12 +194,6 @@ def largest_plan():
     return plan
 
 
-def repeated(text, count):
-    """A report of an entry's text, numbered from 1."""
-    behind = text[text.index(b"\n"):]
-    return b"pallet-report 2\n" + b"".join(b"entry %d%s" % (number, behind) for number in range(1, count + 1)) + b"done %d\n" % count
-
-
 def try_reports(measured):
     plan = largest_plan()
     verdict = verdict_of(plan)
@@ -208,7 +204,7 @@ def try_reports(measured):
         len(text), len(plan.cert[2]), len(plan.layers), len(plan.stack)))
     for count in (159990000 // len(text), 256):
         what = "%d made entries" % count
-        measured.write("report", repeated(text, count))
+        measured.write("report", changed(plan, times=count))
         measured.write("yes", yes_to(count))
         for words in (["check"], ["check", "--workers", "4"], ["check", "--workers", "16"]):
             measured.run(what, words, "report", "verdicts", 0)

@@ -14,4 +14,5 @@ if child == 0:
     os.dup2(os.open(sys.argv[2], os.O_WRONLY | os.O_CREAT | os.O_TRUNC, 0o600), 1)
     os.execv(sys.argv[3], sys.argv[3:])
 _, ended, used = os.wait4(child, 0)
-print(os.waitstatus_to_exitcode(ended), "%.3f" % (time.monotonic() - begun), "%.3f" % (used.ru_utime + used.ru_stime), used.ru_maxrss)
+seconds = time.monotonic() - begun
+print(os.waitstatus_to_exitcode(ended), "%.3f" % seconds, "%.3f" % (used.ru_utime + used.ru_stime), used.ru_maxrss)

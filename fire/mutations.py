@@ -126,8 +126,8 @@ def random_row(rng):
 
 
 def random_id(rng):
-    return rng.choice([b"A", b"B-12", b"\"A, 3\"", b"\"say \"\"x\"\"\"", b"a b ", b" ", b"~!", b"\"two\nlines\"", b"x" * 40, b"y" * 41,
-                       b"\"\"", b"\xc3\xa4", b"a\"b"])
+    return rng.choice([b"A", b"B-12", b"\"A, 3\"", b"\"say \"\"x\"\"\"", b"a b ", b" ", b"~!", b"\"two\nlines\"",
+                       b"x" * 40, b"y" * 41, b"\"\"", b"\xc3\xa4", b"a\"b"])
 
 
 def spoil(rng, numbers):
@@ -319,7 +319,8 @@ def change_weighting(rng, weighting, reduced):
     width, height, long_side, short_side = reduced
     kind = rng.randrange(4)
     if kind == 0:
-        return rng.choice([("area",), ("colour", long_side, rng.randrange(long_side)), ("colour", short_side, rng.randrange(short_side)),
+        return rng.choice([("area",), ("colour", long_side, rng.randrange(long_side)),
+                           ("colour", short_side, rng.randrange(short_side)),
                            ("comb", long_side, rng.randrange(long_side), short_side, rng.randrange(short_side)),
                            ("comb", short_side, short_side - 1, short_side, short_side - 1)])
     if kind == 1 and weighting[0] in ("colour", "comb"):

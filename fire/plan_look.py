@@ -28,11 +28,12 @@ def is_least(given, reduced):
     return False
 
 
-def mapped(given, reduced, boxes, axis):
-    """Where the chain map brings the cases along an axis: for each the greatest total of new extents of a chain before it."""
+def mapped(spans):
+    """Where the chain map brings the cases along an axis: for each the greatest total of new extents of a chain before it.
+    A span is where a case begins, where it ends, and its new extent."""
     places = {}
-    for place, (begin, _, _) in sorted(enumerate(boxes), key=lambda one: one[1][0]):
-        before = [places[other] + boxes[other][2] for other in places if boxes[other][1] <= begin]
+    for place, (begin, _, _) in sorted(enumerate(spans), key=lambda one: one[1][0]):
+        before = [places[other] + spans[other][2] for other in places if spans[other][1] <= begin]
         places[place] = max(before, default=0)
     return places
 
@@ -47,9 +48,7 @@ def drawing_lines(plan):
         along_x, along_y = (extent + gap for extent in extents(plan.order, way))
         new_x, new_y = (new_long, new_short) if way == "L" else (new_short, new_long)
         moved.append(((x, x + along_x, new_x), (y, y + along_y, new_y)))
-    given = sides_of(plan.order)
-    x_places = mapped(given, plan.reduced, [one[0] for one in moved], 0)
-    y_places = mapped(given, plan.reduced, [one[1] for one in moved], 1)
+    x_places, y_places = mapped([one[0] for one in moved]), mapped([one[1] for one in moved])
     cells = [["."] * width for _ in range(height)]
     placed = sorted((y_places[i], x_places[i], one[0][2], one[1][2]) for i, one in enumerate(moved))
     for number, (y, x, along_x, along_y) in enumerate(placed):
