@@ -22,6 +22,7 @@ import multiprocessing
 import os
 import random
 import sys
+import tempfile
 import time
 import traceback
 
@@ -260,7 +261,7 @@ def main():
     arguments.add_argument("--first", type=int, default=0, help="the number of the first one")
     arguments.add_argument("--seed", type=int, default=1)
     arguments.add_argument("--jobs", type=int, default=4, help="runs side by side")
-    arguments.add_argument("--keep", default="/tmp/fire-finds", help="the folder in which inputs of finds are kept")
+    arguments.add_argument("--keep", default=os.path.join(tempfile.gettempdir(), "fire-finds"), help="the folder in which inputs of finds are kept")
     chosen = arguments.parse_args()
     program.need_program()
     begun = time.monotonic()
