@@ -2,9 +2,6 @@
 use Rattle.std.proofs.Common.{◌≡◌, ℕ, suc, ◌-◌, ◌+◌, ◌≤◌, ◌<◌, List, [], ◌∷◌, ◌++◌, Ok, Err, refl, sym, ap, ◌∙◌, append_assoc, arith}
 use Rattle.std.proofs.lemmas.List.{append-nil}
 use Rattle.texts.specs.Grammar.{Reading, ◌>>=◌, first_by}
-use Rattle.texts.specs.Gives.{Fails}
-use Rattle.texts.specs.declared.stops.Stop.{Stop}
-use Rattle.texts.specs.declared.stops.Stop.TheVariants as stops
 use Rattle.weightings.specs.declared.certs.StripCut.{StripCut}
 use Rattle.cert_text.specs.Words.{cut_of}
 use Rattle.cert_text.specs.Lines.{cuts_from}
@@ -25,13 +22,12 @@ goes_on front count i ls after c total lt h so_far =
     let one : with_front front (cuts_from (count - i) i ls) ≡ with_front (front ++ c ∷ []) (cuts_from (count - (i + 1)) (i + 1) after) = rw (k, h) (regroup front c (cuts_from (count - (i + 1)) (i + 1) after)) in
     sym one ∙ so_far
 
-pub ends : (e : Stop) (front : List StripCut) (count i : ℕ) (ls : List (List ℕ)) (total : Reading (List ℕ) (List StripCut)) → i < count → Fails e (first_by (cut_of i) ls)
-    → with_front front (cuts_from (count - i) i ls) ≡ total → Fails e total
+pub ends : (left : ℕ) (front : List StripCut) (count i : ℕ) (ls : List (List ℕ)) (total : Reading (List ℕ) (List StripCut)) → i < count → first_by (cut_of i) ls ≡ Err left
+    → with_front front (cuts_from (count - i) i ls) ≡ total → total ≡ Err left
 unfolding cuts_from
-ends stops.Memory front count i ls total lt h so_far = tt
-ends (stops.Left f) front count i ls total lt h so_far =
+ends left front count i ls total lt h so_far =
     let k : count - i ≡ suc (count - (i + 1)) = omega arith in
-    let one : with_front front (cuts_from (count - i) i ls) ≡ Err f = rw (k, h) refl in
+    let one : with_front front (cuts_from (count - i) i ls) ≡ Err left = rw (k, h) refl in
     sym so_far ∙ one
 
 pub is_done : (front : List StripCut) (count i : ℕ) (ls : List (List ℕ)) (total : Reading (List ℕ) (List StripCut)) → count ≤ i → with_front front (cuts_from (count - i) i ls) ≡ total → total ≡ Ok (front, ls)

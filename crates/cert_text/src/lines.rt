@@ -1,6 +1,6 @@
 ghost use Rattle.std.specs.Prelude.{true, ◌≡◌, ◌++◌, ℕ, List, length, IfOk};
 ghost use Rattle.texts.specs.Grammar.{first_by};
-ghost use Rattle.texts.specs.Gives.{Gives};
+ghost use Rattle.texts.specs.Gives.{Gives, GivesOrLeaves};
 ghost use Rattle.texts.specs.Lines.{whole_lines, unfinished};
 ghost use Rattle.texts.specs.Spelling.{FaultsAt, IsInFront};
 ghost use Rattle.weightings.specs.declared.certs.Cert.{Cert};
@@ -15,7 +15,7 @@ use crate::marks::tree_line;
 use crate::rows::row_line;
 use crate::words::{Head, WeightLine, cut_line, head_line, weight_line};
 use std::alloc::Global;
-use texts::{LineStop, Stop, count_lines, next_line};
+use texts::{LineStop, LinesLeft, Stop, count_lines, next_line};
 use weightings::{Cert, Marks, StripCert, StripCut, WeightTable, Weighting};
 
 /// Why no certificate was got.
@@ -27,29 +27,33 @@ pub enum CertFault {
     Line(u32),
 }
 
-fn head_at(form: Form, bytes: &[u8]) -> Result<(Head, &[u8]), Stop>
-    ensures read { Gives (λ x. (x.0, whole_lines x.1.now)) result (first_by (head_of form) (whole_lines bytes.now)) }
+fn head_at(form: Form, bytes: &[u8]) -> Result<(Head, &[u8]), LinesLeft>
+    ensures read { GivesOrLeaves (λ x. (x.0, whole_lines x.1.now)) result (first_by (head_of form) (whole_lines bytes.now)) }
     ensures rest { IfOk result (λ x. unfinished x.1.now ≡ unfinished bytes.now) }
 {
     let Some((line, rest)) = next_line(bytes) else {
-        return Err(Stop::Left(0));
+        return Err(LinesLeft { count: 0 });
     };
     match head_line(form, line) {
         Some(head) => Ok((head, rest)),
-        None => Err(Stop::Left(count_lines(bytes))),
+        None => Err(LinesLeft {
+            count: count_lines(bytes),
+        }),
     }
 }
 
-fn weight_line_at(form: Form, bytes: &[u8]) -> Result<(WeightLine, &[u8]), Stop>
-    ensures read { Gives (λ x. (x.0, whole_lines x.1.now)) result (first_by (weight_line_of form) (whole_lines bytes.now)) }
+fn weight_line_at(form: Form, bytes: &[u8]) -> Result<(WeightLine, &[u8]), LinesLeft>
+    ensures read { GivesOrLeaves (λ x. (x.0, whole_lines x.1.now)) result (first_by (weight_line_of form) (whole_lines bytes.now)) }
     ensures rest { IfOk result (λ x. unfinished x.1.now ≡ unfinished bytes.now) }
 {
     let Some((line, rest)) = next_line(bytes) else {
-        return Err(Stop::Left(0));
+        return Err(LinesLeft { count: 0 });
     };
     match weight_line(form, line) {
         Some(found) => Ok((found, rest)),
-        None => Err(Stop::Left(count_lines(bytes))),
+        None => Err(LinesLeft {
+            count: count_lines(bytes),
+        }),
     }
 }
 
@@ -129,16 +133,18 @@ fn tree_at(alloc: Global, bytes: &[u8]) -> Result<(Marks, &[u8]), Stop>
     }
 }
 
-fn cut_at(place: u32, bytes: &[u8]) -> Result<(StripCut, &[u8]), Stop>
-    ensures read { Gives (λ x. (x.0, whole_lines x.1.now)) result (first_by (cut_of place) (whole_lines bytes.now)) }
+fn cut_at(place: u32, bytes: &[u8]) -> Result<(StripCut, &[u8]), LinesLeft>
+    ensures read { GivesOrLeaves (λ x. (x.0, whole_lines x.1.now)) result (first_by (cut_of place) (whole_lines bytes.now)) }
     ensures rest { IfOk result (λ x. unfinished x.1.now ≡ unfinished bytes.now) }
 {
     let Some((line, rest)) = next_line(bytes) else {
-        return Err(Stop::Left(0));
+        return Err(LinesLeft { count: 0 });
     };
     match cut_line(line, place) {
         Some(cut) => Ok((cut, rest)),
-        None => Err(Stop::Left(count_lines(bytes))),
+        None => Err(LinesLeft {
+            count: count_lines(bytes),
+        }),
     }
 }
 

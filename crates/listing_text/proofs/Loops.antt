@@ -31,13 +31,12 @@ cases_go_on front count i ls after c total lt h so_far =
     let one : with_front front (cases_from (count - i) ls) ≡ with_front (front ++ c ∷ []) (cases_from (count - (i + 1)) after) = rw (k, h) (regroup front c (cases_from (count - (i + 1)) after)) in
     sym one ∙ so_far
 
-pub cases_end : (e : Stop) (front : List Spot) (count i : ℕ) (ls : List (List ℕ)) (total : Reading (List ℕ) (List Spot)) → i < count → Fails e (first_by case_of ls)
-    → with_front front (cases_from (count - i) ls) ≡ total → Fails e total
+pub cases_end : (left : ℕ) (front : List Spot) (count i : ℕ) (ls : List (List ℕ)) (total : Reading (List ℕ) (List Spot)) → i < count → first_by case_of ls ≡ Err left
+    → with_front front (cases_from (count - i) ls) ≡ total → total ≡ Err left
 unfolding cases_from
-cases_end stops.Memory front count i ls total lt h so_far = tt
-cases_end (stops.Left f) front count i ls total lt h so_far =
+cases_end left front count i ls total lt h so_far =
     let k : count - i ≡ suc (count - (i + 1)) = omega arith in
-    let one : with_front front (cases_from (count - i) ls) ≡ Err f = rw (k, h) refl in
+    let one : with_front front (cases_from (count - i) ls) ≡ Err left = rw (k, h) refl in
     sym so_far ∙ one
 
 pub cases_done : (front : List Spot) (count i : ℕ) (ls : List (List ℕ)) (total : Reading (List ℕ) (List Spot)) → count ≤ i → with_front front (cases_from (count - i) ls) ≡ total → total ≡ Ok (front, ls)
@@ -82,12 +81,11 @@ rules_go_on front rules i d ls after u total lt h so_far =
     let one : with_front front (unmet_from (drop i rules) ls) ≡ with_front (front ++ u ∷ []) (unmet_from (drop (i + 1) rules) after) = rw (drop-cons rules i d lt, add-one, h) (regroup front u (unmet_from (drop (suc i) rules) after)) in
     sym one ∙ so_far
 
-pub rules_end : (e : Stop) (front : List UnmetRule) (rules : List Rule) (i : ℕ) (d : Rule) (ls : List (List ℕ)) (total : Reading (List ℕ) (List UnmetRule)) → i < length rules → Fails e (first_by (rule_of (get_or rules i d)) ls)
-    → with_front front (unmet_from (drop i rules) ls) ≡ total → Fails e total
+pub rules_end : (left : ℕ) (front : List UnmetRule) (rules : List Rule) (i : ℕ) (d : Rule) (ls : List (List ℕ)) (total : Reading (List ℕ) (List UnmetRule)) → i < length rules → first_by (rule_of (get_or rules i d)) ls ≡ Err left
+    → with_front front (unmet_from (drop i rules) ls) ≡ total → total ≡ Err left
 unfolding unmet_from
-rules_end stops.Memory front rules i d ls total lt h so_far = tt
-rules_end (stops.Left f) front rules i d ls total lt h so_far =
-    let one : with_front front (unmet_from (drop i rules) ls) ≡ Err f = rw (drop-cons rules i d lt, h) refl in
+rules_end left front rules i d ls total lt h so_far =
+    let one : with_front front (unmet_from (drop i rules) ls) ≡ Err left = rw (drop-cons rules i d lt, h) refl in
     sym so_far ∙ one
 
 pub rules_done : (front : List UnmetRule) (rules : List Rule) (i : ℕ) (ls : List (List ℕ)) (total : Reading (List ℕ) (List UnmetRule)) → length rules ≤ i → with_front front (unmet_from (drop i rules) ls) ≡ total → total ≡ Ok (front, ls)

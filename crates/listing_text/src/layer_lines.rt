@@ -1,6 +1,6 @@
 ghost use Rattle.std.specs.Prelude.{◌≡◌, IfOk};
 ghost use Rattle.texts.specs.Grammar.{first_by};
-ghost use Rattle.texts.specs.Gives.{Gives};
+ghost use Rattle.texts.specs.Gives.{Gives, GivesOrLeaves};
 ghost use Rattle.texts.specs.Lines.{whole_lines, unfinished};
 ghost use Rattle.listing_text.specs.Words.{case_of, turn_of, layer_count_of};
 ghost use Rattle.listing_text.specs.Lines.{cases_from, layer_from, listed_from, layers_at as layers_value};
@@ -10,18 +10,20 @@ use layer_symmetry::Move;
 use plan_entries::{Layers, Listed, Spots};
 use plan_geometry::Spot;
 use std::alloc::Global;
-use texts::{Stop, count_lines, next_line};
+use texts::{LinesLeft, Stop, count_lines, next_line};
 
-fn case_at(bytes: &[u8]) -> Result<(Spot, &[u8]), Stop>
-    ensures read { Gives (λ x. (x.0, whole_lines x.1.now)) result (first_by case_of (whole_lines bytes.now)) }
+fn case_at(bytes: &[u8]) -> Result<(Spot, &[u8]), LinesLeft>
+    ensures read { GivesOrLeaves (λ x. (x.0, whole_lines x.1.now)) result (first_by case_of (whole_lines bytes.now)) }
     ensures rest { IfOk result (λ x. unfinished x.1.now ≡ unfinished bytes.now) }
 {
     let Some((line, rest)) = next_line(bytes) else {
-        return Err(Stop::Left(0));
+        return Err(LinesLeft { count: 0 });
     };
     match case_line(line) {
         Some(spot) => Ok((spot, rest)),
-        None => Err(Stop::Left(count_lines(bytes))),
+        None => Err(LinesLeft {
+            count: count_lines(bytes),
+        }),
     }
 }
 
@@ -39,16 +41,18 @@ fn cases_at(alloc: Global, count: u32, bytes: &[u8]) -> Result<(Vec<Spot>, &[u8]
     Ok((spots, rest))
 }
 
-fn turn_at(number: u32, bytes: &[u8]) -> Result<(Move, &[u8]), Stop>
-    ensures read { Gives (λ x. (x.0, whole_lines x.1.now)) result (first_by (turn_of number) (whole_lines bytes.now)) }
+fn turn_at(number: u32, bytes: &[u8]) -> Result<(Move, &[u8]), LinesLeft>
+    ensures read { GivesOrLeaves (λ x. (x.0, whole_lines x.1.now)) result (first_by (turn_of number) (whole_lines bytes.now)) }
     ensures rest { IfOk result (λ x. unfinished x.1.now ≡ unfinished bytes.now) }
 {
     let Some((line, rest)) = next_line(bytes) else {
-        return Err(Stop::Left(0));
+        return Err(LinesLeft { count: 0 });
     };
     match turn_line(line, number) {
         Some(turn) => Ok((turn, rest)),
-        None => Err(Stop::Left(count_lines(bytes))),
+        None => Err(LinesLeft {
+            count: count_lines(bytes),
+        }),
     }
 }
 
@@ -83,16 +87,18 @@ fn listed_at(
     Ok((layers, rest))
 }
 
-fn layer_count_at(bytes: &[u8]) -> Result<(u32, &[u8]), Stop>
-    ensures read { Gives (λ x. (x.0, whole_lines x.1.now)) result (first_by layer_count_of (whole_lines bytes.now)) }
+fn layer_count_at(bytes: &[u8]) -> Result<(u32, &[u8]), LinesLeft>
+    ensures read { GivesOrLeaves (λ x. (x.0, whole_lines x.1.now)) result (first_by layer_count_of (whole_lines bytes.now)) }
     ensures rest { IfOk result (λ x. unfinished x.1.now ≡ unfinished bytes.now) }
 {
     let Some((line, rest)) = next_line(bytes) else {
-        return Err(Stop::Left(0));
+        return Err(LinesLeft { count: 0 });
     };
     match layer_count_line(line) {
         Some(count) => Ok((count, rest)),
-        None => Err(Stop::Left(count_lines(bytes))),
+        None => Err(LinesLeft {
+            count: count_lines(bytes),
+        }),
     }
 }
 

@@ -1,6 +1,6 @@
 ghost use Rattle.std.specs.Prelude.{◌≡◌, ◌≤◌, ◌∷◌, ◌++◌, [], if◌then◌else◌, IfOk, OnOk};
 ghost use Rattle.texts.specs.Grammar.{first_by};
-ghost use Rattle.texts.specs.Gives.{Gives};
+ghost use Rattle.texts.specs.Gives.{Gives, GivesOrLeaves};
 ghost use Rattle.texts.specs.Lines.{whole_lines, unfinished};
 ghost use Rattle.stack_builder.specs.Orders.{rules_of};
 ghost use Rattle.listing_text.specs.Words.{allowed_of, reply_of, rule_of};
@@ -12,18 +12,20 @@ use order_reader::{Field, Order};
 use plan_memory::Memory;
 use stack_builder::{StackAnswer, UnmetRule, UnmetRules};
 use std::alloc::Global;
-use texts::{LineStop, Stop, count_lines, next_line};
+use texts::{LineStop, LinesLeft, Stop, count_lines, next_line};
 
-fn allowed_at(bytes: &[u8]) -> Result<(u32, &[u8]), Stop>
-    ensures read { Gives (λ x. (x.0, whole_lines x.1.now)) result (first_by allowed_of (whole_lines bytes.now)) }
+fn allowed_at(bytes: &[u8]) -> Result<(u32, &[u8]), LinesLeft>
+    ensures read { GivesOrLeaves (λ x. (x.0, whole_lines x.1.now)) result (first_by allowed_of (whole_lines bytes.now)) }
     ensures rest { IfOk result (λ x. unfinished x.1.now ≡ unfinished bytes.now) }
 {
     let Some((line, rest)) = next_line(bytes) else {
-        return Err(Stop::Left(0));
+        return Err(LinesLeft { count: 0 });
     };
     match allowed_line(line) {
         Some(allowed) => Ok((allowed, rest)),
-        None => Err(Stop::Left(count_lines(bytes))),
+        None => Err(LinesLeft {
+            count: count_lines(bytes),
+        }),
     }
 }
 
@@ -46,16 +48,18 @@ fn reply_at<'a>(
     }
 }
 
-fn rule_at(rule: Rule, bytes: &[u8]) -> Result<(UnmetRule, &[u8]), Stop>
-    ensures read { Gives (λ x. (x.0, whole_lines x.1.now)) result (first_by (rule_of rule) (whole_lines bytes.now)) }
+fn rule_at(rule: Rule, bytes: &[u8]) -> Result<(UnmetRule, &[u8]), LinesLeft>
+    ensures read { GivesOrLeaves (λ x. (x.0, whole_lines x.1.now)) result (first_by (rule_of rule) (whole_lines bytes.now)) }
     ensures rest { IfOk result (λ x. unfinished x.1.now ≡ unfinished bytes.now) }
 {
     let Some((line, rest)) = next_line(bytes) else {
-        return Err(Stop::Left(0));
+        return Err(LinesLeft { count: 0 });
     };
     match rule_line(line, rule) {
         Some(unmet) => Ok((unmet, rest)),
-        None => Err(Stop::Left(count_lines(bytes))),
+        None => Err(LinesLeft {
+            count: count_lines(bytes),
+        }),
     }
 }
 

@@ -32,12 +32,11 @@ goes_on form count i ls mid after e total lt h g so_far =
     let one : with_before i (entries_from form (count - i) i ls) ≡ with_before (i + 1) (entries_from form (count - (i + 1)) (i + 1) after) = rw (k, h, g) (one_more i e (entries_from form (count - (i + 1)) (i + 1) after)) in
     sym one ∙ so_far
 
-pub ends_next : (s : Stop) (form : Form) (count i : ℕ) (ls : List (List ℕ)) (total : Reading (List ℕ) ℕ) → i < count → Fails s (first_by (next_of i) ls) → with_before i (entries_from form (count - i) i ls) ≡ total → Fails s total
+pub ends_next : (left : ℕ) (form : Form) (count i : ℕ) (ls : List (List ℕ)) (total : Reading (List ℕ) ℕ) → i < count → first_by (next_of i) ls ≡ Err left → with_before i (entries_from form (count - i) i ls) ≡ total → total ≡ Err left
 unfolding entries_from
-ends_next stops.Memory form count i ls total lt h so_far = tt
-ends_next (stops.Left f) form count i ls total lt h so_far =
+ends_next left form count i ls total lt h so_far =
     let k : count - i ≡ suc (count - (i + 1)) = omega arith in
-    let one : with_before i (entries_from form (count - i) i ls) ≡ Err f = rw (k, h) refl in
+    let one : with_before i (entries_from form (count - i) i ls) ≡ Err left = rw (k, h) refl in
     sym so_far ∙ one
 
 pub ends_entry : (s : Stop) (form : Form) (count i : ℕ) (ls mid : List (List ℕ)) (total : Reading (List ℕ) ℕ) → i < count → first_by (next_of i) ls ≡ Ok (More, mid) → Fails s (entry_behind form (i + 1) mid) → with_before i (entries_from form (count - i) i ls) ≡ total → Fails s total
@@ -57,12 +56,11 @@ is_done form count i ls after total lt h so_far =
     sym so_far ∙ one
 
 -- behind the most
-pub ends_last : (s : Stop) (form : Form) (count i : ℕ) (ls : List (List ℕ)) (total : Reading (List ℕ) ℕ) → i ≡ count → Fails s (first_by (done_of count) ls) → with_before i (entries_from form (count - i) i ls) ≡ total → Fails s total
+pub ends_last : (left : ℕ) (form : Form) (count i : ℕ) (ls : List (List ℕ)) (total : Reading (List ℕ) ℕ) → i ≡ count → first_by (done_of count) ls ≡ Err left → with_before i (entries_from form (count - i) i ls) ≡ total → total ≡ Err left
 unfolding entries_from
-ends_last stops.Memory form count i ls total le h so_far = tt
-ends_last (stops.Left f) form count i ls total le h so_far =
+ends_last left form count i ls total le h so_far =
     let k : count - count ≡ 0 = omega arith in
-    let one : with_before i (entries_from form (count - i) i ls) ≡ Err f = rw (le, k, h) refl in
+    let one : with_before i (entries_from form (count - i) i ls) ≡ Err left = rw (le, k, h) refl in
     sym so_far ∙ one
 
 pub is_last : (form : Form) (count i n : ℕ) (ls after : List (List ℕ)) (total : Reading (List ℕ) ℕ) → i ≡ count → first_by (done_of count) ls ≡ Ok (n, after) → with_before i (entries_from form (count - i) i ls) ≡ total → total ≡ Ok (count, after)

@@ -1,6 +1,6 @@
 ghost use Rattle.std.specs.Prelude.{◌≡◌, ◌++◌, ℕ, List, length, IfOk};
 ghost use Rattle.texts.specs.Grammar.{first_by};
-ghost use Rattle.texts.specs.Gives.{Gives};
+ghost use Rattle.texts.specs.Gives.{Gives, GivesOrLeaves};
 ghost use Rattle.texts.specs.Lines.{whole_lines, unfinished};
 ghost use Rattle.texts.specs.Spelling.{FaultsAt, IsInFront};
 ghost use Rattle.plan_entries.specs.Ranges.{IsInRange};
@@ -18,7 +18,7 @@ use cert_text::{Form, cert_from};
 use listing_text::{answer_from, layers_from};
 use plan_entries::{Entry, Plan};
 use std::alloc::Global;
-use texts::{LineStop, Stop, count_lines, next_line};
+use texts::{LineStop, LinesLeft, Stop, count_lines, next_line};
 
 /// Why no entry was got.
 #[derive(Clone, Copy, PartialEq, Eq, Debug)]
@@ -29,16 +29,18 @@ pub enum EntryFault {
     Line(u32),
 }
 
-fn number_at(form: Form, bytes: &[u8]) -> Result<(u32, &[u8]), Stop>
-    ensures read { Gives (λ x. (x.0, whole_lines x.1.now)) result (first_by (number_of_line form) (whole_lines bytes.now)) }
+fn number_at(form: Form, bytes: &[u8]) -> Result<(u32, &[u8]), LinesLeft>
+    ensures read { GivesOrLeaves (λ x. (x.0, whole_lines x.1.now)) result (first_by (number_of_line form) (whole_lines bytes.now)) }
     ensures rest { IfOk result (λ x. unfinished x.1.now ≡ unfinished bytes.now) }
 {
     let Some((line, rest)) = next_line(bytes) else {
-        return Err(Stop::Left(0));
+        return Err(LinesLeft { count: 0 });
     };
     match number_line(form, line) {
         Some(number) => Ok((number, rest)),
-        None => Err(Stop::Left(count_lines(bytes))),
+        None => Err(LinesLeft {
+            count: count_lines(bytes),
+        }),
     }
 }
 
@@ -57,17 +59,19 @@ fn second_at(alloc: Global, form: Form, bytes: &[u8]) -> Result<(Second, &[u8]),
 }
 
 // The bytes behind the last line of an entry.
-fn end_at(bytes: &[u8]) -> Result<&[u8], Stop>
-    ensures read { Gives (λ x. whole_lines x.now) result (behind_line end_line (whole_lines bytes.now)) }
+fn end_at(bytes: &[u8]) -> Result<&[u8], LinesLeft>
+    ensures read { GivesOrLeaves (λ x. whole_lines x.now) result (behind_line end_line (whole_lines bytes.now)) }
     ensures rest { IfOk result (λ x. unfinished x.now ≡ unfinished bytes.now) }
 {
     let Some((line, rest)) = next_line(bytes) else {
-        return Err(Stop::Left(0));
+        return Err(LinesLeft { count: 0 });
     };
     if line == b"end".as_slice() {
         Ok(rest)
     } else {
-        Err(Stop::Left(count_lines(bytes)))
+        Err(LinesLeft {
+            count: count_lines(bytes),
+        })
     }
 }
 

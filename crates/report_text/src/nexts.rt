@@ -1,13 +1,13 @@
 ghost use Rattle.std.specs.Prelude.{◌≡◌, ◌≤◌, IfOk};
 ghost use Rattle.texts.specs.Grammar.{first_by};
-ghost use Rattle.texts.specs.Gives.{Gives, GivesOption};
+ghost use Rattle.texts.specs.Gives.{GivesOrLeaves, GivesOption};
 ghost use Rattle.texts.specs.Lines.{whole_lines, unfinished, words_left};
 ghost use Rattle.texts.specs.Words.{word_by};
 ghost use Rattle.report_text.specs.NextWords.{done_of, next_kind_of, next_number as next_number_of, next_of};
 ghost use Rattle.report_text.specs.ReportLines.{form_of};
 
 use cert_text::Form;
-use texts::{Stop, count_lines, is_end, next_line, next_word, skip_word, this_number_word};
+use texts::{LinesLeft, count_lines, is_end, next_line, next_word, skip_word, this_number_word};
 
 /// What the line behind some entries of a report says.
 #[derive(Clone, Copy, PartialEq, Eq, Debug)]
@@ -73,41 +73,47 @@ fn form_line(line: &[u8]) -> Option<Form>
     }
 }
 
-pub(crate) fn next_at(before: u32, bytes: &[u8]) -> Result<(Next, &[u8]), Stop>
-    ensures read { Gives (λ x. (x.0, whole_lines x.1.now)) result (first_by (next_of before) (whole_lines bytes.now)) }
+pub(crate) fn next_at(before: u32, bytes: &[u8]) -> Result<(Next, &[u8]), LinesLeft>
+    ensures read { GivesOrLeaves (λ x. (x.0, whole_lines x.1.now)) result (first_by (next_of before) (whole_lines bytes.now)) }
     ensures rest { IfOk result (λ x. unfinished x.1.now ≡ unfinished bytes.now) }
 {
     let Some((line, rest)) = next_line(bytes) else {
-        return Err(Stop::Left(0));
+        return Err(LinesLeft { count: 0 });
     };
     match next_entry_line(before, line) {
         Some(next) => Ok((next, rest)),
-        None => Err(Stop::Left(count_lines(bytes))),
+        None => Err(LinesLeft {
+            count: count_lines(bytes),
+        }),
     }
 }
 
-pub(crate) fn done_at(before: u32, bytes: &[u8]) -> Result<(u64, &[u8]), Stop>
-    ensures read { Gives (λ x. (x.0, whole_lines x.1.now)) result (first_by (done_of before) (whole_lines bytes.now)) }
+pub(crate) fn done_at(before: u32, bytes: &[u8]) -> Result<(u64, &[u8]), LinesLeft>
+    ensures read { GivesOrLeaves (λ x. (x.0, whole_lines x.1.now)) result (first_by (done_of before) (whole_lines bytes.now)) }
     ensures rest { IfOk result (λ x. unfinished x.1.now ≡ unfinished bytes.now) }
 {
     let Some((line, rest)) = next_line(bytes) else {
-        return Err(Stop::Left(0));
+        return Err(LinesLeft { count: 0 });
     };
     match done_line(before, line) {
         Some(number) => Ok((number, rest)),
-        None => Err(Stop::Left(count_lines(bytes))),
+        None => Err(LinesLeft {
+            count: count_lines(bytes),
+        }),
     }
 }
 
-pub(crate) fn form_at(bytes: &[u8]) -> Result<(Form, &[u8]), Stop>
-    ensures read { Gives (λ x. (x.0, whole_lines x.1.now)) result (first_by form_of (whole_lines bytes.now)) }
+pub(crate) fn form_at(bytes: &[u8]) -> Result<(Form, &[u8]), LinesLeft>
+    ensures read { GivesOrLeaves (λ x. (x.0, whole_lines x.1.now)) result (first_by form_of (whole_lines bytes.now)) }
     ensures rest { IfOk result (λ x. unfinished x.1.now ≡ unfinished bytes.now) }
 {
     let Some((line, rest)) = next_line(bytes) else {
-        return Err(Stop::Left(0));
+        return Err(LinesLeft { count: 0 });
     };
     match form_line(line) {
         Some(form) => Ok((form, rest)),
-        None => Err(Stop::Left(count_lines(bytes))),
+        None => Err(LinesLeft {
+            count: count_lines(bytes),
+        }),
     }
 }

@@ -97,7 +97,6 @@ pub fn check_text(alloc: Global, bytes: &[u8]) -> Result<Entries<'_>, ReportFaul
 {
     match form_at(bytes) {
         Ok((form, entries)) => check_entries(alloc, form, bytes, entries),
-        Err(Stop::Memory) => Err(ReportFault::Memory),
-        Err(Stop::Left(left)) => Err(ReportFault::Line(line_before(bytes, left))),
+        Err(left) => Err(ReportFault::Line(line_before(bytes, left.count))),
     }
 }

@@ -2,6 +2,7 @@
 use Rattle.std.specs.Prelude.{◌≡◌, ℕ, Option, Some, None, Result, Ok, Err}
 use Rattle.texts.specs.declared.stops.Stop.{Stop}
 use Rattle.texts.specs.declared.stops.Stop.TheVariants as stops
+use Rattle.texts.specs.declared.stops.LinesLeft.{LinesLeft}
 use Rattle.texts.specs.declared.stops.LineStop.{LineStop}
 use Rattle.texts.specs.declared.stops.LineStop.TheVariants as line_stops
 
@@ -13,6 +14,11 @@ Fails (stops.Left n) read = read ≡ Err n
 abbrev pub Gives : {X Y : Type 0} → (X → Y) → Result X Stop → Result Y ℕ → Type 0
 Gives view (Ok x) read = read ≡ Ok (view x)
 Gives view (Err e) read = Fails e read
+
+-- what a reader of lines that needs no memory returned, seen by view, is what reading gives
+abbrev pub GivesOrLeaves : {X Y : Type 0} → (X → Y) → Result X LinesLeft → Result Y ℕ → Type 0
+GivesOrLeaves view (Ok x) read = read ≡ Ok (view x)
+GivesOrLeaves view (Err l) read = read ≡ Err l.count
 
 abbrev pub FailsLine : {Y : Type 0} → LineStop → Option Y → Type 0
 FailsLine line_stops.Memory read = Unit {0}

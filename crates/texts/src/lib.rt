@@ -9,7 +9,7 @@ mod words;
 pub use lines::{count_lines, next_line};
 pub use plan_memory::Memory;
 pub use puts::{put_named, put_text};
-pub use stops::{LineStop, Stop};
+pub use stops::{LineStop, LinesLeft, Stop};
 pub use words::{is_end, next_word, number_word, number_words, skip_word, this_number_word};
 
 #[cfg(test)]

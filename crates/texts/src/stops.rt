@@ -14,6 +14,12 @@ pub enum Stop {
     Left(usize),
 }
 
+/// A fault, before which so many lines with an end were left: why a reader of lines that needs no memory stopped.
+#[derive(Clone, Copy, PartialEq, Eq, Debug)]
+pub struct LinesLeft {
+    pub count: usize,
+}
+
 /// Why a reader of one line stopped.
 #[derive(Clone, Copy, PartialEq, Eq, Debug)]
 pub enum LineStop {
@@ -44,6 +50,14 @@ impl From<Memory> for Stop {
 
     fn from(_error: Memory) -> Stop {
         Stop::Memory
+    }
+}
+
+impl From<LinesLeft> for Stop {
+    ghost from_gives = { λ l e. e ≡ stops.Left l.count };
+
+    fn from(fault: LinesLeft) -> Stop {
+        Stop::Left(fault.count)
     }
 }
 

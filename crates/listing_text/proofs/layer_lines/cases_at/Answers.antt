@@ -8,7 +8,7 @@ use Rattle.listing_text.proofs.layer_lines.cases_at.Goals as goal
 pub returns-in_err-spot-clause-read : goal.returns-in_err-spot-clause-read
 returns-in_err-spot-clause-read c =
     let p = err_from_is_err_and c.from_residual.result c.from_residual.ensures.1 in
-    rw (p.1, p.2) (cases_end c.in_err-spot.field-0.0 c.loop-place.spots.items c.args.count c.loop-place._place (whole_lines c.loop-place.rest.now) (cases_from c.args.count (whole_lines c.args.bytes.now)) c.loop-place-test.true c.in_err-spot.ensures.read c.loop-place.invariant.read)
+    rw (p.1, p.2) (cases_end c.in_err-spot.field-0.0.count c.loop-place.spots.items c.args.count c.loop-place._place (whole_lines c.loop-place.rest.now) (cases_from c.args.count (whole_lines c.args.bytes.now)) c.loop-place-test.true c.in_err-spot.ensures.read c.loop-place.invariant.read)
 
 pub loop-place-preserved : goal.loop-place-preserved
 loop-place-preserved c = record {

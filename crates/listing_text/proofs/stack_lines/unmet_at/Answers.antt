@@ -9,7 +9,7 @@ use Rattle.listing_text.proofs.stack_lines.unmet_at.Goals as goal
 pub returns-in_err-told-clause-read : goal.returns-in_err-told-clause-read
 returns-in_err-told-clause-read c =
     let p = err_from_is_err_and c.from_residual.result c.from_residual.ensures.1 in
-    rw (p.1, p.2) (rules_end c.in_err-told.field-0.0 c.loop-rule.unmet.items c.args.rules.now c.loop-rule.rule-index (Contact 0) (whole_lines c.loop-rule.rest.now) (unmet_from c.args.rules.now (whole_lines c.args.bytes.now)) c.loop-rule-test.true c.in_err-told.ensures.read c.loop-rule.invariant.read)
+    rw (p.1, p.2) (rules_end c.in_err-told.field-0.0.count c.loop-rule.unmet.items c.args.rules.now c.loop-rule.rule-index (Contact 0) (whole_lines c.loop-rule.rest.now) (unmet_from c.args.rules.now (whole_lines c.args.bytes.now)) c.loop-rule-test.true c.in_err-told.ensures.read c.loop-rule.invariant.read)
 
 pub loop-rule-preserved : goal.loop-rule-preserved
 loop-rule-preserved c = record {

@@ -20,7 +20,7 @@ returns-in_err-next-clause-read c =
     let p = err_from_is_err_and c.from_residual.result c.from_residual.ensures.1 in
     let v = c.most_entries-most.ensures.value in
     let t = c.loop-before-test.true in
-    rw (p.1, p.2) (ends_next c.in_err-next.field-0.0 c.args.form (most_entries c.args.form) c.loop-before.before (whole_lines c.loop-before.rest.now) (entries_counted c.args.form (whole_lines c.args.bytes.now)) (omega arith) c.in_err-next.ensures.read c.loop-before.invariant.read)
+    rw (p.1, p.2) (ends_next c.in_err-next.field-0.0.count c.args.form (most_entries c.args.form) c.loop-before.before (whole_lines c.loop-before.rest.now) (entries_counted c.args.form (whole_lines c.args.bytes.now)) (omega arith) c.in_err-next.ensures.read c.loop-before.invariant.read)
 
 pub returns-in-Done-clause-read : goal.returns-in-Done-clause-read
 returns-in-Done-clause-read c =
@@ -50,7 +50,7 @@ returns-in_err-rest-clause-read c =
     let v = c.most_entries-most.ensures.value in
     let t = c.loop-before-test.false in
     let e = c.loop-before.auto.before-end in
-    rw (p.1, p.2) (ends_last c.in_err-rest.field-0.0 c.args.form (most_entries c.args.form) c.loop-before.before (whole_lines c.loop-before.rest.now) (entries_counted c.args.form (whole_lines c.args.bytes.now)) (omega arith) (rw v at c.in_err-rest.ensures.read) c.loop-before.invariant.read)
+    rw (p.1, p.2) (ends_last c.in_err-rest.field-0.0.count c.args.form (most_entries c.args.form) c.loop-before.before (whole_lines c.loop-before.rest.now) (entries_counted c.args.form (whole_lines c.args.bytes.now)) (omega arith) (rw v at c.in_err-rest.ensures.read) c.loop-before.invariant.read)
 
 pub returns-clause-read : goal.returns-clause-read
 returns-clause-read c =
