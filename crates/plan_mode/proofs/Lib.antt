@@ -1,3 +1,4 @@
 pub mod FirstLayer
 pub mod EntryFacts
 pub mod Acceptance
+pub mod PlainText

@@ -15,7 +15,7 @@ use Rattle.plan_entries.specs.declared.entries.Entry.TheVariants.{Planned, Refus
 use Rattle.plan_entries.specs.Entries.{first_spots}
 use Rattle.plan_soundness.specs.Sound.{IsSound}
 use Rattle.report_text.specs.Text.{entry_text}
-use Rattle.report_text.specs.Reports.{head_text, done_text}
+use Rattle.report_text.specs.Reports.{head_text, done_text, report_text}
 
 -- where the entry is a plan, it is sound
 abbrev pub IsSoundEntry : Entry → Type 0
@@ -69,6 +69,11 @@ pub record IsTextOf (draw : Bool) (entries : List Entry) (text : List ℕ) : Typ
   pub pieces : List (List ℕ)
   pub are_pieces : ArePieces draw entries pieces
   pub text_is : text ≡ head_of draw ++ (joined pieces ++ done_text (length entries))
+
+-- without drawings, the text is that of the report of these entries, which `check` reads
+abbrev pub IsPlainReport : Bool → List Entry → List ℕ → Type 0
+IsPlainReport false entries text = text ≡ report_text Two entries
+IsPlainReport true entries text = ⊤
 
 -- the text of the entries of some of so many rows: the last line only where each row has its entry
 abbrev pub done_if : Bool → ℕ → List ℕ

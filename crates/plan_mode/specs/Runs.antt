@@ -12,7 +12,7 @@ use Rattle.plan_entries.specs.declared.entries.Entry.{Entry}
 use Rattle.plan_entries.specs.Entries.{any_refused}
 use Rattle.plan_mode.specs.Entries.{AreEntriesOf, AreFirstEntriesOf}
 use Rattle.plan_mode.specs.Accepted.{AreAccepted}
-use Rattle.plan_mode.specs.Pieces.{IsTextOf, IsBegunText, IsBrokenText}
+use Rattle.plan_mode.specs.Pieces.{IsTextOf, IsPlainReport, IsBegunText, IsBrokenText}
 
 -- how many bytes an orders file may have, and how many rows
 abbrev pub most_bytes : ℕ
@@ -38,6 +38,7 @@ pub record Reported (draw : Bool) (left left' written written' : Option (List �
   pub accepted : AreAccepted entries
   pub text : List ℕ
   pub is_text : IsTextOf draw entries text
+  pub plain : IsPlainReport draw entries text
   pub wrote : Appends written written' text
   pub finding : any_refused entries ≡ found
 

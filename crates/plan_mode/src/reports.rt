@@ -9,7 +9,7 @@ ghost use Rattle.plan_entries.specs.Entries.{is_refused, any_refused};
 ghost use Rattle.plan_entries.specs.declared.entries.Entry.{Entry};
 ghost use Rattle.plan_mode.specs.Entries.{IsEntryOf, AreEntriesOf, AreFirstEntriesOf};
 ghost use Rattle.plan_mode.specs.Accepted.{AreAccepted};
-ghost use Rattle.plan_mode.specs.Pieces.{IsPieceOf, ArePieces, joined, IsTextOf, IsBegunText, IsBrokenText};
+ghost use Rattle.plan_mode.specs.Pieces.{IsPieceOf, ArePieces, joined, IsTextOf, IsPlainReport, IsBegunText, IsBrokenText};
 ghost use Rattle.plan_mode.specs.Runs.{most_bytes, HasRows, HasNoHeader, HasTooManyRows, Reported, Begun, BrokeOff, IsOrdersFile, IsRowsCode};
 
 use crate::entries::plan_row;
@@ -96,7 +96,7 @@ fn write_report<K: Sink>(
 ) -> Result<bool, WriteStop>
     requires { length rows.now ≤ 256 }
     ensures ok { IfOk result (λ found. (es : List Entry) × (text : List ℕ) × AreEntriesOf rows.now es × AreAccepted es × (any_refused es ≡ found)
-        × IsTextOf draw es text × Appends (K.written sink.old) (K.written sink.new) text) }
+        × IsTextOf draw es text × IsPlainReport draw es text × Appends (K.written sink.old) (K.written sink.new) text) }
     ensures part { IsErrOf result WriteStop.Fault → (es : List Entry) × (text : List ℕ) × AreFirstEntriesOf rows.now es
         × IsBegunText draw (length rows.now) es text × AppendsPart (K.written sink.old) (K.written sink.new) text }
     ensures rose { IsErrOf result WriteStop.Fault → Rose (K.faults sink.old) (K.faults sink.new) }

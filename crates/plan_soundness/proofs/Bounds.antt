@@ -15,7 +15,7 @@ use Rattle.plan_entries.specs.Entries.{variants_on, first_spots}
 use Rattle.plan_entries.specs.declared.listed.Listed.{Listed}
 use Rattle.plan_entries.specs.declared.entries.Plan.{Plan}
 use Rattle.plan_soundness.specs.Sound.{IsSound, IsListedLayer}
-use Rattle.plan_soundness.specs.Laws.{SoundPlansAreBounded, CountsAreWithinBounds, OptimalIsGreatest}
+use Rattle.plan_soundness.specs.Laws.{SoundPlansAreBounded, CountsAreReached, CountsAreWithinBounds, OptimalIsGreatest}
 
 swollen : (o : OrderValue) (R J : Inst) → IsRealOf o R → IsGivenOf o J → IsSwollen R (gap_of o) J
 swollen o R J r g = record {
@@ -55,6 +55,11 @@ bounded p s =
       is_real = l.1.layer.is_real;
       bounded = (SameBounds-layouts real (gap_of p.order) s.bound.given same p.bound).1 (shown p s);
     }
+
+pub reached : CountsAreReached
+reached p s =
+    let l = first_of p s in
+    (l.0.spots, l.1.layer, l.1.count_is)
 
 pub within : CountsAreWithinBounds
 within p s =

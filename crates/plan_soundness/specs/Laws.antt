@@ -1,6 +1,7 @@
 -- What follows where a plan is sound.
-use Rattle.std.specs.Prelude.{◌≤◌, ◌≡◌}
-use Rattle.order_reader.specs.Instances.{IsBoundFor}
+use Rattle.std.specs.Prelude.{◌≤◌, ◌≡◌, List, length}
+use Rattle.plan_geometry.specs.declared.spots.Spot.{Spot}
+use Rattle.order_reader.specs.Instances.{IsBoundFor, IsLayerFor}
 use Rattle.plan_entries.specs.declared.entries.Status.TheVariants.{Optimal}
 use Rattle.plan_entries.specs.declared.entries.Plan.{Plan}
 use Rattle.plan_soundness.specs.Sound.{IsSound}
@@ -8,6 +9,10 @@ use Rattle.plan_soundness.specs.Sound.{IsSound}
 -- no layer of the order has more cases than the bound
 abbrev pub SoundPlansAreBounded : Type 0
 SoundPlansAreBounded = (p : Plan) → IsSound p → IsBoundFor p.order p.bound
+
+-- the order has a layer with as many cases as the count
+abbrev pub CountsAreReached : Type 0
+CountsAreReached = (p : Plan) → IsSound p → (spots : List Spot) × IsLayerFor p.order spots × (length spots ≡ p.count)
 
 -- the count is at most the bound
 abbrev pub CountsAreWithinBounds : Type 0

@@ -1,4 +1,4 @@
-use Rattle.std.proofs.Common.{◌++◌, [], length, ap, inr, refl, sym, rules}
+use Rattle.std.proofs.Common.{◌≡◌, ◌++◌, [], length, ap, inr, refl, sym, rules}
 use Rattle.std.specs.Prelude.{IsErrOf}
 use Rattle.std.specs.Io.KnownBytes.{Appends}
 use Rattle.std.proofs.KnownBytes.{Appends-trans}
@@ -9,6 +9,7 @@ use Rattle.report_text.specs.Reports.{done_text}
 use Rattle.plan_mode.specs.Pieces.{joined, head_of}
 use Rattle.plan_mode.proofs.EntryFacts.{none-first, all-first, done-begun}
 use Rattle.plan_mode.proofs.Acceptance.{are_accepted}
+use Rattle.plan_mode.proofs.PlainText.{plain}
 use Rattle.plan_mode.proofs.reports.write_report.Goals as goal
 
 pub returns-in_err-send-clause-part : goal.returns-in_err-send-clause-part
@@ -60,12 +61,14 @@ returns-clause-ok g c =
     let rows = c.args.rows.now in
     let (es, ts, are, found, count, pieces, wrote) = c.in_ok-found.ensures.ok in
     let head : Appends (g.K.Sink.written c.args.sink.now) (g.K.Sink.written c.send.new.sink) (head_of draw) = search rules in
-    let last : Appends (g.K.Sink.written c.write_entries.new.sink) (g.K.Sink.written c.send-2.new.sink) (done_text (length rows)) = search rules in (
+    let last : Appends (g.K.Sink.written c.write_entries.new.sink) (g.K.Sink.written c.send-2.new.sink) (done_text (length rows)) = search rules in
+    let whole : head_of draw ++ (joined ts ++ done_text (length rows)) ≡ head_of draw ++ (joined ts ++ done_text (length es)) = ap (λ n. head_of draw ++ (joined ts ++ done_text n)) (sym count) in (
       es,
       head_of draw ++ (joined ts ++ done_text (length rows)),
       are,
       are_accepted rows es c.requires are,
       found,
-      record { pieces = ts; are_pieces = pieces; text_is = ap (λ n. head_of draw ++ (joined ts ++ done_text n)) (sym count) },
+      record { pieces = ts; are_pieces = pieces; text_is = whole },
+      plain draw es ts _ pieces whole,
       Appends-trans _ _ _ (head_of draw) _ head (Appends-trans _ _ _ (joined ts) _ wrote last),
     )
