@@ -1,5 +1,5 @@
 -- Bounds that are known, and a layer with the bound that is left of them.
-use Rattle.std.specs.Prelude.{◌≡◌, ℕ, ◌≤◌, ◌⊎◌, length}
+use Rattle.std.specs.Prelude.{◌≡◌, ℕ, ◌<◌, ◌≤◌, ◌⊎◌, length}
 use Rattle.plan_geometry.specs.declared.instances.Inst.{Inst}
 use Rattle.plan_geometry.specs.Layout.{area_bound_of}
 use Rattle.plan_geometry.specs.Placed.{IsLayer}
@@ -16,6 +16,10 @@ pub record IsKnown (given reduced : Inst) (known : Known) : Type 0 where
   pub accepted : Accepts given reduced known.cert known.bound
   pub short : HasShortCert reduced known.cert
   pub in_range : known.bound ≤ 1000 → InRange Two known.cert
+
+-- nothing is known anew, or the bound is less
+abbrev pub IsKeptOrLess : Known → Known → Type 0
+IsKeptOrLess old new = (new ≡ old) ⊎ (new.bound < old.bound)
 
 -- A layer of the reduced instance that has at least the cases of each pattern, and a bound with what shows it: the bound
 -- is no more than that one, and at most that of the game's table.

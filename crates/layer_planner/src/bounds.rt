@@ -5,7 +5,7 @@ ghost use Rattle.partitions.specs.Partitions.{SameSides};
 ghost use Rattle.weightings.specs.Lead.{IsLead};
 ghost use Rattle.strip_bound.specs.CutLists.{IsStripBoundOf};
 ghost use Rattle.layer_planner.specs.Quality.{IsAtMostFamily, IsAtMostStrip};
-ghost use Rattle.layer_planner.specs.Known.{IsKnown};
+ghost use Rattle.layer_planner.specs.Known.{IsKnown, IsKeptOrLess};
 
 use block_tables::uniform_of;
 use plan_geometry::{Inst, area_bound};
@@ -59,6 +59,7 @@ fn or_strip(alloc: Global, given: Inst, reduced: Inst, known: Known) -> Result<K
     requires known { IsKnown given reduced known }
     ensures known { IfOk result (λ k. IsKnown given reduced k) }
     ensures less { IfOk result (λ k. k.bound ≤ known.bound) }
+    ensures kept { IfOk result (λ k. IsKeptOrLess known k) }
     ensures strip { IfOk result (λ k. IsAtMostStrip reduced k.bound) }
 {
     let strip = strip(alloc, reduced)?;
@@ -78,6 +79,7 @@ fn or_area(given: Inst, reduced: Inst, known: Known) -> Known
     requires known { IsKnown given reduced known }
     ensures known { IsKnown given reduced result }
     ensures less { result.bound ≤ known.bound }
+    ensures kept { IsKeptOrLess known result }
     ensures area { result.bound ≤ area_bound_of given }
 {
     let bound = area_bound(given);
