@@ -25,9 +25,10 @@ fn status_of(count: u32, bound: u32) -> Status
     }
 }
 
-/// The plan of an order, under a number from 1 to 256. The order's instance is reduced; its layer is the best of the
-/// block patterns, and then of a search while that is below the bounds known beforehand and no more than 500,000 states
-/// are to be visited for one case more.
+/// The plan of an order, under a number from 1 to 256. The order's instance is reduced. Its layer is the best of the
+/// patterns of blocks and of L-regions; where that has fewer cases than the least bound of the weights, the strips, the
+/// area and the tables, a search follows for one case more, and again from there, as long as no more than 500,000 states
+/// are to be visited.
 pub fn plan_order(alloc: Global, order: &Order, number: u32) -> Result<Plan, Memory>
     requires some { 1 ≤ number }
     requires few { number ≤ 256 }
