@@ -121,15 +121,6 @@ fn move_weights(
     }
 }
 
-// Writes the entries of the one list into the other.
-pub(crate) fn write_over(from: &[u64], to: &mut [u64])
-    requires { length from.now ≡ length to.old }
-{
-    for k in 0..to.len() {
-        to[k] = from[k];
-    }
-}
-
 // One turn: the levels answer the weights, and then the weights the levels. The steps are as long as the cells that a
 // case has allow.
 fn turn(inst: Inst, flow: &mut Flow)
@@ -144,7 +135,9 @@ fn turn(inst: Inst, flow: &mut Flow)
     };
     let level_rate = (flow.balance / norm.max(1)).max(1);
     let weight_rate = ((1 << 48) / flow.balance.saturating_mul(norm).max(1)).max(1);
-    write_over(flow.weights.now.as_slice(), flow.scratch.as_mut_slice());
+    flow.scratch
+        .as_mut_slice()
+        .copy_from_slice(flow.weights.now.as_slice());
     sum_up(flow.scratch.as_mut_slice(), row_length(inst));
     move_levels(
         inst,

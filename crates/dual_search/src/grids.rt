@@ -36,13 +36,6 @@ pub(crate) fn sum_up(grid: &mut [u64], row: usize) {
     sum_across(grid, row);
 }
 
-// Makes each entry 0.
-pub(crate) fn clear(list: &mut [u64]) {
-    for entry in list.iter_mut() {
-        *entry = 0;
-    }
-}
-
 // The sum of a block of cells between two rows of sums, which begins in column x and is a columns wide.
 pub(crate) fn block(low: &[u64], high: &[u64], x: usize, a: usize) -> u64
     requires low { x + a < length low.now }
@@ -141,7 +134,7 @@ pub(crate) fn cover(inst: Inst, lying: &[u64], standing: &[u64], covers: &mut [u
     requires standing { length standing.now ≡ places X inst Way.Standing * places Y inst Way.Standing }
     requires covers { length covers.old ≡ grid_length inst }
 {
-    clear(covers);
+    covers.fill(0);
     mark(inst, Way::Lying, lying, covers);
     mark(inst, Way::Standing, standing, covers);
     sum_up(covers, row_length(inst));

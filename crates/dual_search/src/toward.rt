@@ -8,8 +8,8 @@ ghost use Rattle.dual_search.specs.Grids.{grid_length};
 ghost use Rattle.dual_search.specs.Flows.{AreValues, IsFlow};
 ghost use Rattle.dual_search.specs.Trials.{IsFinding};
 
-use crate::flows::{Flow, ONE, Values, turns, write_over};
-use crate::grids::{clear, cover, row_length};
+use crate::flows::{Flow, ONE, Values, turns};
+use crate::grids::{cover, row_length};
 use crate::positions::positions_of;
 use crate::trials::{Finding, greatest_of, measures_of, sum_of, tried};
 use plan_geometry::{Inst, Way, area_bound};
@@ -128,7 +128,7 @@ fn begin_with(values: &mut Values, now: Vec<u64>)
     ensures { AreValues (vec_len now) values.new }
 {
     values.now = now;
-    clear(values.sums.as_mut_slice());
+    values.sums.as_mut_slice().fill(0);
 }
 
 // How much the levels count against the weights, with 24 binary places: midway, by ratios, between what it was and
@@ -170,7 +170,9 @@ fn restart(inst: Inst, flow: &mut Flow, averages: Averages, gap: u64)
         lying.as_slice(),
         standing.as_slice(),
     );
-    write_over(flow.scratch.as_slice(), flow.covers.as_mut_slice());
+    flow.covers
+        .as_mut_slice()
+        .copy_from_slice(flow.scratch.as_slice());
     begin_with(&mut flow.weights, weights);
     begin_with(&mut flow.lying, lying);
     begin_with(&mut flow.standing, standing);

@@ -3,7 +3,6 @@ ghost use Rattle.plan_geometry.specs.Layout.{CaseFits};
 ghost use Rattle.dual_search.specs.Grids.{grid_length};
 ghost use Rattle.dual_search.specs.Trials.{IsFinding};
 
-use crate::flows::write_over;
 use crate::grids::{least_of_cases, row_length, sum_up};
 use plan_geometry::Inst;
 use plan_memory::Memory;
@@ -47,7 +46,7 @@ pub(crate) fn measures_of(inst: Inst, weights: &[u64], scratch: &mut [u64]) -> M
     requires weights { length weights.now ≡ grid_length inst }
     requires scratch { length scratch.old ≡ grid_length inst }
 {
-    write_over(weights, scratch);
+    scratch.copy_from_slice(weights);
     sum_up(scratch, row_length(inst));
     Measures {
         total: sum_of(weights),
