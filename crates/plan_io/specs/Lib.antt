@@ -4,3 +4,4 @@ pub mod MemoryStreams
 pub mod StdStreams
 pub mod Sent
 pub mod Numbers
+pub mod Laws

@@ -1,12 +1,14 @@
 //! Where bytes come from and where they go, and the numbers in a text.
 #![tactic(auto)]
 
+mod laws;
 mod memory_streams;
 mod numbers;
 mod std_streams;
 mod streams;
 mod whole;
 
+pub use laws::{numbers_have_one_text, put_numbers_are_got};
 pub use memory_streams::{MemSink, MemSource};
 pub use numbers::{get_number, number_of, put_number};
 pub use plan_memory::Memory;

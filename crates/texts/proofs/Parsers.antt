@@ -1,15 +1,15 @@
 -- What a reader of words owes, and how such readers are put together.
-use Rattle.std.proofs.Common.{◌≡◌, ℕ, suc, ◌≤◌, ◌<◌, ◌^◌, List, [], ◌∷◌, ◌++◌, length, get_or, Option, Some, None, refl, sym, ap, subst, ◌∙◌, append_assoc, arith, Bool, true, false, cond, eqb, leb, inl, inr, zero, eq-eqb, rules}
+use Rattle.std.proofs.Common.{◌≡◌, ℕ, suc, ◌≤◌, ◌<◌, ◌^◌, List, [], ◌∷◌, ◌++◌, length, Option, Some, None, refl, sym, ap, subst, ◌∙◌, append_assoc, arith, Bool, true, false, cond, eqb, leb, inl, inr, zero, eq-eqb}
 use Rattle.std.proofs.lemmas.Bool.{cases_Bool, eqb-true, leb-true, le-leb}
 use Rattle.std.proofs.lemmas.Slice.Eq.{bytes_eq-Decides}
-use Rattle.std.proofs.lemmas.Str.Parse.{IsNumeralModel, numerals_by_value, digits_value_short}
-use Rattle.std.proofs.lemmas.Fmt.{digits_decimal, digits_value-decimal, decimal-digits_value, length-decimal-le, decimal_nonempty, first_decimal}
+use Rattle.std.proofs.lemmas.Fmt.{digits_decimal}
 use Rattle.std.specs.Prelude.{decimal, option_map, ◌&&◌, map}
 use Rattle.std.specs.Char.{is_ascii_digit}
 use Rattle.std.specs.Str.{bytes_eq}
 use Rattle.std.specs.List.{list_all, AllByRecursion}
-use Rattle.std.specs.Str.Parse.{digits_value}
-use Rattle.plan_io.specs.Numbers.{number_of, is_number_long}
+use Rattle.plan_io.specs.Numbers.{number_of}
+use Rattle.plan_io.proofs.NumberTexts.{own}
+pub use Rattle.plan_io.proofs.NumberTexts.{number_back, number_is}
 use Rattle.std.specs.List.{onto_first, flat_map}
 use Rattle.std.proofs.lemmas.List.{append-nil, nil_from_length}
 use Rattle.std.proofs.lemmas.List.Elements.{All-from_recursion}
@@ -44,6 +44,10 @@ map_some None f y e = absurd cc
 pub guard_some : {X : Type 0} (b : Bool) (x y : X) → cond b (Some x) None ≡ Some y → (b ≡ true) × (x ≡ y)
 guard_some true x y e = (refl, cc)
 guard_some false x y e = absurd cc
+
+pub both_true : (a b : Bool) → (a && b) ≡ true → (a ≡ true) × (b ≡ true)
+both_true true b e = (refl, e)
+both_true false b e = absurd cc
 
 -- ---- one word
 
@@ -118,61 +122,6 @@ parses_as {S} l l2 F F2 r r2 P to of text same = record {
       let p = P.takes xs a rest (sym (same xs) ∙ e) in
       (of a p.0, p.1 ∙ ap (λ (t : List S). t ++ rest) (sym (text a p.0)));
 }
-
--- ---- numbers
-
-own : IsNumeralModel (λ ds. list_all is_ascii_digit ds ≡ true) (digits_value 10)
-own = numerals_by_value _ (search rules)
-
-pub both_true : (a b : Bool) → (a && b) ≡ true → (a ≡ true) × (b ≡ true)
-both_true true b e = (refl, e)
-both_true false b e = absurd cc
-
-short_from : (ds : List ℕ) → 0 < length ds → length ds ≤ 10 → (get_or ds 0 0 ≡ 48 → length ds ≡ 1) → is_number_long ds ≡ true
-short_from [] pos le zero_alone = absurd (omega arith)
-short_from (d ∷ ds) pos le zero_alone = elim (cases_Bool (eqb d 48)) [
-  | inl y ↦ let one = zero_alone (eqb-true d 48 y) in rw y (let e : length ds ≡ 0 = omega arith in eq-eqb (length ds) 0 e)
-  | inr n ↦ rw n (let le2 : length ds ≤ 9 = omega arith in le-leb _ _ le2)
-]
-
-record IsNumberLong (ds : List ℕ) : Type 0 where
-  pub pos : 0 < length ds
-  pub le : length ds ≤ 10
-  pub alone : get_or ds 0 0 ≡ 48 → length ds ≡ 1
-
-short_is : (ds : List ℕ) → is_number_long ds ≡ true → IsNumberLong ds
-short_is [] e = absurd cc
-short_is (d ∷ ds) e = elim (cases_Bool (eqb d 48)) [
-  | inl y ↦
-      let none : length ds ≡ 0 = eqb-true (length ds) 0 (rw y at e) in
-      record { pos = omega arith; le = omega arith; alone = λ z. omega arith }
-  | inr n ↦
-      let few : length ds ≤ 9 = leb-true (length ds) 9 (rw n at e) in
-      record { pos = omega arith; le = omega arith; alone = λ z. absurd (let w = eq-eqb d 48 z in cc) }
-]
-
-pub number_back : (n : ℕ) → n ≤ 9999999999 → number_of (decimal n) ≡ Some n
-number_back n h =
-    let wide : n < 2 ^ 64 = omega arith in
-    let ten : n < 10 ^ 10 = omega arith in
-    let digits : list_all is_ascii_digit (decimal n) ≡ true = digits_decimal own n wide in
-    let value = digits_value-decimal own n wide in
-    let short : is_number_long (decimal n) ≡ true = short_from (decimal n) (decimal_nonempty n wide) (length-decimal-le 10 n (omega arith) ten wide) (alone n wide) in
-    rw (digits, short, value) refl
-  where
-    alone : (n : ℕ) → n < 2 ^ 64 → get_or (decimal n) 0 0 ≡ 48 → length (decimal n) ≡ 1
-    alone zero wide e = omega (arith, length-decimal-le 1 0 (omega arith) (omega arith) wide, decimal_nonempty 0 wide)
-    alone (suc m) wide e = absurd (omega (arith, first_decimal (suc m) (omega arith) wide))
-
-pub number_is : (w : List ℕ) (n : ℕ) → number_of w ≡ Some n → (n ≤ 9999999999) × (w ≡ decimal n)
-number_is w n e =
-    let g = guard_some (list_all is_ascii_digit w && is_number_long w) (digits_value 10 w) n e in
-    let b = both_true (list_all is_ascii_digit w) (is_number_long w) g.0 in
-    let s = short_is w b.1 in
-    let small : digits_value 10 w < 10 ^ 10 = digits_value_short own w 10 b.0 s.le in
-    let is = decimal-digits_value own w b.0 s.pos s.alone (omega arith) in
-    let same = g.1 in
-    (omega arith, sym is ∙ ap decimal g.1)
 
 -- ---- numbers as words
 

@@ -1,16 +1,19 @@
--- The lead is the first of the family, as a list, with the least bound.
-use Rattle.std.proofs.Common.{◌≡◌, ℕ, zero, suc, ◌+◌, ◌-◌, ◌*◌, ◌/◌, ◌%◌, ◌<◌, ◌≤◌, Bool, true, false, cond, eqb, List, ◌++◌, length, get_or, ap, ◌∙◌, refl, inl, inr, arith, length-append}
+-- The members are those of the family, as a list, and the lead is the first of them with the least bound.
+use Rattle.std.proofs.Common.{◌≡◌, ℕ, zero, suc, ◌+◌, ◌-◌, ◌*◌, ◌/◌, ◌%◌, ◌<◌, ◌≤◌, Bool, true, false, cond, eqb, List, ◌++◌, length, get_or, ap, subst, ◌∙◌, refl, inl, inr, arith, length-append}
 use Rattle.std.proofs.lemmas.Bool.{cases_lt, eq-eqb}
-use Rattle.std.proofs.lemmas.List.{get_or_append_left, get_or-append-add}
+use Rattle.std.specs.List.{Contains}
+use Rattle.std.proofs.lemmas.List.{get_or_append_left, get_or-append-add, get_or_default}
+use Rattle.std.proofs.lemmas.List.Elements.{Contains-get_or}
 use Rattle.std.proofs.lemmas.List.FromFn.{length-map-range_with_len, get_or-map-range_with_len}
 use Rattle.std.proofs.lemmas.Nat.{mul-add-lt, div-add-mod', mod_below, div_below, div-mul-add, mod-mul-add}
 use Rattle.plan_geometry.specs.declared.instances.Inst.{Inst}
 use Rattle.plan_geometry.proofs.GridSteps.{factor-some}
 use Rattle.weightings.specs.declared.kinds.Weighting.{Weighting}
 use Rattle.weightings.specs.declared.kinds.Weighting.TheVariants.{Area, Colour, Comb, Table}
-use Rattle.weightings.specs.Weighting.{IsMember, IsCaseSide}
+use Rattle.weightings.specs.Weighting.{weight_of, IsMember, IsCaseSide, IsWeightBound}
 use Rattle.weightings.specs.Lead.{place_of, combs_before, IsLead}
 use Rattle.weightings.specs.Family.{colours, combs, family, IsFirstLeast}
+use Rattle.weightings.specs.Laws.{MembersAreListed, LeadIsFirstLeast}
 use Rattle.weightings.proofs.LeadSteps.{side-cases, place-lt}
 
 -- each of the list is a member, whose place is at most where it stands, counted from a base
@@ -211,16 +214,50 @@ family-has I (Comb p a r b) m =
     let z : place_of I (Comb p a r b) ≡ suc (I.long + (I.short + (combs_before I p r + (a * r + b)))) = omega arith in
     ap (λ n. get_or (family I) n Area) z ∙ tail2-at I (combs_before I p r + (a * r + b)) ∙ comb-in_tail I p a r b m
 
+place_of-lt : (I : Inst) (g : Weighting) → IsMember I g → place_of I g < length (family I)
+place_of-lt I g m = omega (arith, place-lt I g m, length-family I)
+
 pub IsFirstLeast-lead : (I : Inst) (g : Weighting) → IsLead I g → IsFirstLeast I g
 IsFirstLeast-lead I g h =
-    let at : get_or (family I) (place_of I g) Area ≡ g = family-has I g h.member in
     record {
       place = place_of I g;
-      in_family = omega (arith, place-lt I g h.member, length-family I);
-      at_place = at;
+      in_family = place_of-lt I g h.member;
+      at_place = family-has I g h.member;
       bound = h.bound;
       is_bound = h.is_bound;
       first = λ j n l k.
           let s : IsMember I (get_or (family I) j Area) × (place_of I (get_or (family I) j Area) ≤ 0 + j) = Slots-family I j l in
           elim (h.first (get_or (family I) j Area) n s.0 k) [ inl x ↦ inl x | inr x ↦ inr (x.0, omega (arith, x.1, s.1)) ];
     }
+
+-- where a weighting stands in the family, it is a member, whose place is at most that
+member-at : (I : Inst) (g : Weighting) (j : ℕ) → j < length (family I) → get_or (family I) j Area ≡ g → IsMember I g × (place_of I g ≤ j)
+member-at I g j l e =
+    let s : IsMember I (get_or (family I) j Area) × (place_of I (get_or (family I) j Area) ≤ 0 + j) = Slots-family I j l in
+    let t : IsMember I g × (place_of I g ≤ 0 + j) = rw e at s in
+    (t.0, omega (arith, t.1))
+
+IsLead-first_least : (I : Inst) (g : Weighting) → IsFirstLeast I g → IsLead I g
+IsLead-first_least I g h =
+    let here : IsMember I g × (place_of I g ≤ h.place) = member-at I g h.place h.in_family h.at_place in
+    record {
+      member = here.0;
+      bound = h.bound;
+      is_bound = h.is_bound;
+      first = λ other n m k.
+          let at : get_or (family I) (place_of I other) Area ≡ other = family-has I other m in
+          let k' : IsWeightBound I (weight_of (get_or (family I) (place_of I other) Area)) n = rw at k in
+          elim (h.first (place_of I other) n (place_of-lt I other m) k') [ inl x ↦ inl x | inr x ↦ inr (x.0, omega (arith, x.1, here.1)) ];
+    }
+
+pub lead_first_least : LeadIsFirstLeast
+lead_first_least I g = (IsFirstLeast-lead I g, IsLead-first_least I g)
+
+pub members_listed : MembersAreListed
+members_listed I g = (listed, member)
+  where
+    listed : IsMember I g → Contains (family I) g
+    listed m = subst (Contains (family I)) (family-has I g m) (Contains-get_or (family I) (place_of I g) Area (place_of-lt I g m))
+
+    member : Contains (family I) g → IsMember I g
+    member c = (member-at I g c.0 c.1 (get_or_default (family I) c.0 Area g c.1 ∙ c.2)).0

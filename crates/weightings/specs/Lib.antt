@@ -4,3 +4,4 @@ pub mod Sums
 pub mod Weighting
 pub mod Lead
 pub mod Family
+pub mod Laws

@@ -41,12 +41,18 @@ impl Marks {
     }
 }
 
-/// A cut of a strip certificate, which excludes a pair of numbers of lying and standing cases: by the area, or by
-/// a lines of the long and b of the short sides of the cases along x or y, of which at most q fit.
+/// A cut of a strip certificate, which excludes pairs of numbers of lying and standing cases that no layout has.
 #[derive(Clone, Copy, PartialEq, Eq, Debug)]
 pub enum StripCut {
+    /// By the area: there are more cases than the area bound of the instance.
     Area,
+    /// By the unit lines along x, of which there are as many as the pallet's y side is long. On each line that crosses
+    /// it a case counts `a` where its long side lies along x, and `b` where its short side does. `q` is to be the
+    /// greatest a * i + b * j over the ways to have i long and j short case sides one after another on the pallet's x
+    /// side: no line counts more. An excluded pair counts more than `q` for each line.
     X { a: u32, b: u32, q: u64 },
+    /// By the unit lines along y, of which there are as many as the pallet's x side is long: the same with x and y
+    /// exchanged.
     Y { a: u32, b: u32, q: u64 },
 }
 
