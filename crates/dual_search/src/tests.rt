@@ -35,14 +35,32 @@ fn weight(table: &WeightTable, x: u32, y: u32) -> Option<u32> {
     }
 }
 
+// The first five weights of a row, where the table has them.
+fn row(table: &WeightTable, y: u32) -> Option<[u32; 5]> {
+    Some([
+        weight(table, 0, y)?,
+        weight(table, 1, y)?,
+        weight(table, 2, y)?,
+        weight(table, 3, y)?,
+        weight(table, 4, y)?,
+    ])
+}
+
 #[test]
 fn many_rounds(rt: HostRuntime) -> Result<(), Fail> {
     let inst = Inst::new(5, 5, 3, 3).ok_or("sides")?;
     let found = table(rt.alloc(), inst, MOST_ROUNDS)?.ok_or("table")?;
-    assert_eq!(rt; weight(&found, 1, 0), Some(1));
-    assert_eq!(rt; weight(&found, 3, 0), Some(0));
-    assert_eq!(rt; weight(&found, 2, 2), Some(5));
-    assert_eq!(rt; weight(&found, 2, 3), Some(0));
+    let rows = [
+        (0, [1, 1, 1, 0, 0]),
+        (1, [0, 0, 1, 0, 0]),
+        (2, [0, 0, 5, 0, 0]),
+        (3, [0, 0, 0, 0, 0]),
+        (4, [0, 0, 0, 0, 0]),
+    ];
+    for (y, weights) in rows {
+        assert_eq!(rt; row(&found, y), Some(weights));
+    }
+    assert_eq!(rt; (found.x_side(), found.y_side()), (5, 5));
     assert_eq!(rt; measures(inst, found), Some((9, 5, Some(1))));
     Ok(())
 }

@@ -32,9 +32,9 @@ fn area_alone(rt: HostRuntime) -> Result<(), Fail> {
     let cert = certificate(rt.alloc(), inst)?.ok_or("fits")?;
     let cuts = cert.cuts();
     assert_eq!(rt; cuts.len(), 11);
-    assert_eq!(rt; cuts[0], StripCut::Area);
-    assert_eq!(rt; cuts[5], StripCut::Area);
-    assert_eq!(rt; cuts[10], StripCut::Area);
+    for cut in cuts {
+        assert_eq!(rt; *cut, StripCut::Area);
+    }
     Ok(())
 }
 

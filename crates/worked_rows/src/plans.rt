@@ -40,7 +40,9 @@ fn bounds(rt: HostRuntime) -> Result<(), Fail> {
         ),
         (
             "\nA,1000,1000,300,200,1,10,1,1000,0,0,100",
-            &["\nreduced 10 10 3 2\ncount 16\nbound 16\nstatus optimal\n"],
+            &[
+                "\nreduced 10 10 3 2\ncount 16\nbound 16\nstatus optimal\ncert weighted\nweighting area\ntree .\nlayers ",
+            ],
         ),
         (
             "\nA,4,11,11,4,1,10,1,1000,0,0,100",
@@ -57,6 +59,41 @@ fn bounds(rt: HostRuntime) -> Result<(), Fail> {
     for (row, parts) in rows {
         assert!(rt; planned(&rt, rt.alloc(), row, parts)?);
     }
+    Ok(())
+}
+
+// Whether both places of a case line are multiples of a hundred; None for any other line.
+fn stands_at_hundreds(line: &str) -> Option<bool> {
+    let (places, way) = line.rsplit_once(' ')?;
+    if way != "L" && way != "S" {
+        return None;
+    }
+    let (x, y) = places.split_once(' ')?;
+    Some((x == "0" || x.ends_with("00")) && (y == "0" || y.ends_with("00")))
+}
+
+// Where each side is a multiple of a hundred, so is each place of the sixteen cases of each form.
+#[test]
+fn places_at_hundreds(rt: HostRuntime) -> Result<(), Fail> {
+    let alloc = rt.alloc();
+    let row = "\nA,1000,1000,300,200,1,10,1,1000,0,0,100";
+    let ran = ran(&rt, alloc, "plan", &file(alloc, row)?)?;
+    let Ok(text) = str::from_utf8(&ran.written) else {
+        return Err("no text".into());
+    };
+    let mut forms: u32 = 0;
+    let mut cases: u32 = 0;
+    for line in text.lines() {
+        if line.starts_with("layer ") {
+            forms = forms.saturating_add(1);
+        }
+        if let Some(hundreds) = stands_at_hundreds(line) {
+            assert!(rt; hundreds, "{line}");
+            cases = cases.saturating_add(1);
+        }
+    }
+    assert!(rt; 0 < forms);
+    assert_eq!(rt; cases, forms.saturating_mul(16));
     Ok(())
 }
 
