@@ -55,6 +55,7 @@ impl Source for MemSource {
 
     ghost faults = { λ s. s.faults };
 
+    /// Gives as many bytes as the piece, the place and what is left allow. Fails exactly at the calls that it was told.
     fn read(&mut self, into: &mut [u8]) -> Result<usize, Failed>
         ensures bound { ReadsAtMost result into.new }
         ensures bytes { ReadConsumes (Some self.old.left) (Some self.new.left) result into.new }
@@ -130,6 +131,8 @@ impl Sink for MemSink {
 
     ghost faults = { λ s. s.faults };
 
+    /// Takes as many bytes as its piece, these bytes and the room that is left allow. Fails exactly at the calls that it
+    /// was told, and where there are bytes to write and no room is left.
     fn write(&mut self, piece: &[u8]) -> Result<usize, Failed>
         ensures bound { TakesSome result piece.now }
         ensures bytes { WriteAppends (Some self.old.written) (Some self.new.written) result piece.now }

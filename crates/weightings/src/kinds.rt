@@ -1,11 +1,15 @@
 use crate::tables::WeightTable;
 
-/// A weight for each cell of the pallet: 1 everywhere; 1 where x + y leaves c mod k; 1 where x leaves a mod p
-/// and y leaves b mod r; or what a table says. The colours are those of Barnes 1979.
+/// A weight for each cell of the pallet, whose cells are the unit squares (x, y) from (0, 0) on. The colours are those
+/// of Barnes 1979.
 #[derive(Debug, Drop)]
 pub enum Weighting {
+    /// 1 everywhere.
     Area,
+    /// 1 where x + y leaves `c` when divided by `k`, else 0.
     Colour { k: u32, c: u32 },
+    /// 1 where x leaves `a` when divided by `p` and y leaves `b` when divided by `r`, else 0.
     Comb { p: u32, a: u32, r: u32, b: u32 },
+    /// What the table says, cell by cell.
     Table(WeightTable),
 }

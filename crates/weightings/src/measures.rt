@@ -91,7 +91,7 @@ impl Weighting {
         }
     }
 
-    /// What a cell weighs.
+    /// What the cell (x, y) weighs.
     pub fn cell(&self, x: u32, y: u32) -> u64
         requires { HasCell self.now x y }
         ensures { result ≡ weight_of self.now x y }
@@ -110,7 +110,7 @@ impl Weighting {
         }
     }
 
-    /// The weight of the whole pallet.
+    /// The weight of all cells of the pallet together.
     pub fn total(&self, inst: Inst) -> u64
         requires { IsLawfulWeighting inst self.now }
         ensures value { result ≡ total_weight (weight_of self.now) inst }
@@ -140,7 +140,7 @@ impl Weighting {
         }
     }
 
-    /// The least weight of a case inside the pallet, over all ways that it has.
+    /// The least weight of a case inside the pallet, over the lawful ways in which it fits.
     pub fn least(&self, inst: Inst) -> u64
         requires member { IsLawfulWeighting inst self.now }
         requires fits { CaseFits inst }

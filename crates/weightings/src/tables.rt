@@ -139,7 +139,7 @@ impl WeightTable {
         )
     }
 
-    /// The weight of the a by b cells from (x, y) on, in four reads.
+    /// The weight of all cells of a block, a along x and b along y, whose first cell is (x, y), in four reads.
     pub fn weight_from(&self, x: u32, y: u32, a: u32, b: u32) -> u32
         requires across { x + a ≤ self.now.x_side }
         requires along { y + b ≤ self.now.y_side }
@@ -151,7 +151,7 @@ impl WeightTable {
         right - under
     }
 
-    /// The weight of a cell.
+    /// The weight of the cell (x, y).
     pub fn cell(&self, x: u32, y: u32) -> u32
         requires across { x < self.now.x_side }
         requires along { y < self.now.y_side }
