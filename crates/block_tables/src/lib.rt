@@ -1,5 +1,5 @@
-// Tables of the greatest numbers of cases that block patterns reach, from small blocks to large ones, and
-// the trees that are built from them.
+//! Tables of the greatest numbers of cases that block patterns reach, from small blocks to large ones, and
+//! the trees that are built from them.
 #![tactic(auto)]
 
 mod building;

@@ -68,7 +68,7 @@ fn are_lawful(inst: Inst, places: &[Part], parts: &[Node]) -> bool
     true
 }
 
-// Whether the node is the root of a lawful tree.
+/// Whether the node is the root of a lawful tree.
 pub fn is_tree(inst: Inst, root: &Node) -> bool
     ensures { IsTrue result ↔ spec.IsTree inst root.now }
 {

@@ -15,7 +15,7 @@ pub fn grid_cases(inst: Inst, way: Way, a: u32, b: u32) -> u32
     a / extent_along(Axis::X, inst, way) * (b / extent_along(Axis::Y, inst, way))
 }
 
-// The sum of the cases of a node's grids.
+/// The sum of the cases of a node's grids.
 #[cycle(held)]
 pub fn held_count(inst: Inst, node: &Node) -> u32
     requires { IsSmallLawful inst node.now }

@@ -50,7 +50,7 @@ fn place_all(out: &mut Vec<Spot>, inst: Inst, p: Part, spots: &[Spot]) -> Result
     Ok(())
 }
 
-// The cases of a node, in the coordinates of its region.
+/// The cases of a node, in the coordinates of its region.
 #[cycle(draw)]
 pub fn draw_node(alloc: Global, inst: Inst, node: &Node) -> Result<Vec<Spot>, Memory>
     requires { IsSmallLawful inst node.now }

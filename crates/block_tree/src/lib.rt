@@ -1,4 +1,4 @@
-// Block trees: a pallet cut into blocks, each of them a grid of equal cases or cut again.
+//! Block trees: a pallet cut into blocks, each of them a grid of equal cases or cut again.
 #![tactic(auto)]
 
 mod checking;

@@ -142,7 +142,7 @@ fn placed_at(flip: bool, at: u32, low: u32, high: u32) -> u32
     if flip { at - high } else { at + low }
 }
 
-// A case of a part, in the whole.
+/// A case of a part, in the whole.
 pub fn placed(inst: Inst, p: Part, s: Spot) -> Spot
     requires stands { drawing.InRegion inst p.region s }
     requires part { drawing.IsPart p }

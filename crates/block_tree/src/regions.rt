@@ -71,14 +71,14 @@ pub fn rectangle(a: u32, b: u32) -> Region
     }
 }
 
-// Whether the small numbers are at most the great ones.
+/// Whether the small numbers are at most the great ones.
 pub fn is_ordered(r: Region) -> bool
     ensures { IsTrue result ↔ spec.IsOrdered r }
 {
     r.small_x <= r.big_x && r.small_y <= r.big_y
 }
 
-// Whether each number of the region is at most that of the part.
+/// Whether each number of the region is at most that of the part.
 pub fn is_within(r: Region, part: Region) -> bool
     ensures { IsTrue result ↔ spec.Within r part }
 {
@@ -88,14 +88,14 @@ pub fn is_within(r: Region, part: Region) -> bool
         && r.small_y <= part.small_y
 }
 
-// Whether these are cuts of a rectangle into five blocks.
+/// Whether these are cuts of a rectangle into five blocks.
 pub fn are_five_cuts(r: Region, x1: u32, x2: u32, y1: u32, y2: u32) -> bool
     ensures { IsTrue result ↔ AreFiveCuts r x1 x2 y1 y2 }
 {
     is_rectangle(r) && x1 <= x2 && x2 <= side_x(r) && y1 <= y2 && y2 <= side_y(r)
 }
 
-// Whether the cut meets its condition.
+/// Whether the cut meets its condition.
 pub fn is_cut(r: Region, cut: Cut) -> bool
     ensures { IsTrue result ↔ IsCut r cut }
 {

@@ -27,6 +27,7 @@ impl<T> Sequence<T> {
         Sequence { elements }
     }
 
+    /// The elements, in order.
     pub fn as_slice(&self) -> &[T]
         ensures { result.now ≡ self.now }
     {

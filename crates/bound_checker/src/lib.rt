@@ -1,4 +1,4 @@
-// The checker of certificates: whether one shows that no layout of an instance has more than so many cases.
+//! The checker of certificates: whether one shows that no layout of an instance has more than so many cases.
 #![tactic(auto)]
 
 mod checks;

@@ -1,4 +1,4 @@
-// Corner trees: the skyline, its moves, and the marks that refute a number of cases.
+//! Corner trees: the skyline, its moves, and the marks that refute a number of cases.
 #![tactic(auto)]
 
 mod blocks;

@@ -17,14 +17,14 @@ use std::alloc::Global;
 use std::marker::Model;
 use weightings::Weighting;
 
-// Neighbouring columns of one height.
+/// Neighbouring columns of one height.
 #[derive(Clone, Copy)]
 pub struct Run {
     width: u32,
     height: u32,
 }
 
-// A step, with what it overwrote and the weight that it took away.
+/// A step, with what it overwrote and the weight that it took away.
 #[derive(Clone, Copy)]
 pub struct Frame {
     step: Step,
@@ -63,7 +63,7 @@ impl Model for Skyline {
     ghost invariant = { IsSkyline };
 }
 
-// The lowest height, its leftmost column and the flat run from there.
+/// The lowest height, its leftmost column and the flat run from there.
 #[derive(Clone, Copy)]
 pub struct Corner {
     x: u32,

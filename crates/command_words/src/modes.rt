@@ -15,7 +15,7 @@ pub enum Mode {
     Trial { number: u32 },
 }
 
-// The options that were given.
+/// The options that were given.
 #[derive(Clone, Copy, PartialEq, Eq, Debug)]
 pub struct Options {
     pub workers: Option<u32>,
@@ -23,7 +23,7 @@ pub struct Options {
     pub number: Option<u32>,
 }
 
-// The mode of a word, where the options stand with it.
+/// The mode of a word, where the options stand with it.
 #[tactic(auto, unfolding(crate::specs::Accepted::mode_with))]
 pub fn mode_for(word: &str, options: Options) -> Option<Mode>
     ensures { result ≡ mode_with options word.now }

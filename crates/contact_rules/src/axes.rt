@@ -4,7 +4,7 @@ ghost use Rattle.contact_rules.specs.Real.{IsGapOf, other, real_side, real_exten
 
 use plan_geometry::{Axis, Inst, Spot, Way, extent_along, side_along, start_along};
 
-// The other of the two directions.
+/// The other of the two directions.
 pub fn other_axis(axis: Axis) -> Axis
     ensures { result ≡ other axis }
 {
@@ -14,7 +14,7 @@ pub fn other_axis(axis: Axis) -> Axis
     }
 }
 
-// The pallet's real side.
+/// The pallet's real side.
 pub fn real_side_along(axis: Axis, inst: Inst, gap: u32) -> u32
     requires gap { IsGapOf inst gap }
     ensures value { result ≡ real_side axis inst gap }
@@ -23,7 +23,7 @@ pub fn real_side_along(axis: Axis, inst: Inst, gap: u32) -> u32
     side_along(axis, inst) - gap
 }
 
-// How far a real case reaches.
+/// How far a real case reaches.
 pub fn real_extent_along(axis: Axis, inst: Inst, gap: u32, way: Way) -> u32
     requires gap { IsGapOf inst gap }
     ensures value { result ≡ real_extent axis inst gap way }
@@ -33,7 +33,7 @@ pub fn real_extent_along(axis: Axis, inst: Inst, gap: u32, way: Way) -> u32
     extent_along(axis, inst, way) - gap
 }
 
-// Where a real case ends.
+/// Where a real case ends.
 pub fn real_finish_along(axis: Axis, inst: Inst, gap: u32, spot: Spot) -> u32
     requires gap { IsGapOf inst gap }
     requires inside { IsInside inst spot }

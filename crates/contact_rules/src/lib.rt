@@ -1,5 +1,5 @@
-// What two layers, one upon the other, do to each other: the area that they share, the support of each
-// case, and the straight cuts that no case crosses.
+//! What two layers, one upon the other, do to each other: the area that they share, the support of each
+//! case, and the straight cuts that no case crosses.
 #![tactic(auto)]
 
 mod axes;

@@ -37,7 +37,7 @@ fn free_from(spans: &[Span], side: u32, row: u32) -> u32
     stop(spans, row, side).saturating_sub(row)
 }
 
-// The length of the longest run below the side that is free of the spans.
+/// The length of the longest run below the side that is free of the spans.
 pub fn longest_free(spans: &[Span], side: u32) -> u32
     requires spans { All (IsSpanWithin side) spans.now }
     ensures bound { (row n : ℕ) → IsFree spans.now side row n → n ≤ result }
@@ -72,7 +72,7 @@ fn covered(axis: Axis, inst: Inst, gap: u32, s: Spot) -> Span
     }
 }
 
-// Adds the spans of the cases of a layout that cross the line. They are apart, so there are few.
+/// Adds the spans of the cases of a layout that cross the line. They are apart, so there are few.
 pub fn add_crossing(
     axis: Axis,
     inst: Inst,

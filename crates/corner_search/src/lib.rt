@@ -1,4 +1,4 @@
-// The walk over the corner states of an instance, within a budget of states.
+//! The walk over the corner states of an instance, within a budget of states.
 #![tactic(auto)]
 
 mod search;

@@ -23,7 +23,7 @@ pub enum Walk {
     Spent { nodes: u32 },
 }
 
-// What the visit of a state tells.
+/// What the visit of a state tells.
 #[derive(Clone, Copy)]
 pub enum Visit {
     // The state has one case more than asked for.
@@ -34,7 +34,7 @@ pub enum Visit {
     Ended,
 }
 
-// How the visits within the budget end.
+/// How the visits within the budget end.
 #[derive(Clone, Copy)]
 pub enum Outcome {
     Enough,

@@ -1,4 +1,4 @@
-// Tables of weights that bound the layouts of an instance, and searches for good ones.
+//! Tables of weights that bound the layouts of an instance, and searches for good ones.
 #![tactic(auto)]
 
 mod duals;

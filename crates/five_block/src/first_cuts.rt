@@ -24,7 +24,7 @@ fn is_first_cut(inst: Inst, s: u32, x: u32) -> bool
     is_multiple(s - x, inst.long)
 }
 
-// The cuts of a side, in rising order.
+/// The cuts of a side, in rising order.
 pub fn first_cuts(alloc: Global, inst: Inst, s: u32) -> Result<Vec<u32>, Memory>
     requires small { s ≤ 4000 }
     ensures { IfOk result (λ v. ListsFirstCuts inst s v.items) }

@@ -12,14 +12,14 @@ use plan_geometry::Inst;
 use plan_memory::Memory;
 use std::alloc::Global;
 
-// Cuts with their number.
+/// Cuts with their number.
 #[derive(Clone, Copy, PartialEq, Eq, Debug)]
 pub struct KnownCut {
     pub value: u32,
     pub split: Split,
 }
 
-// The lists of the cuts of the two sides.
+/// The lists of the cuts of the two sides.
 #[derive(Clone, Copy)]
 pub struct CutLists<'a> {
     pub inst: Inst,

@@ -1,4 +1,4 @@
-// Five blocks: the best cut of the whole pallet into five grids, and the recursive five-block pattern.
+//! Five blocks: the best cut of the whole pallet into five grids, and the recursive five-block pattern.
 #![tactic(auto)]
 
 mod closing;

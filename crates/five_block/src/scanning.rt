@@ -147,8 +147,8 @@ fn scan_x1(q: Job<'_>, second: &mut [u32], bound: u32, best: Best) -> Best
     best
 }
 
-// The greatest number of the block that comes next. The scan stops where a number reaches the cells of the
-// block divided by those of a case, since none is greater.
+/// The greatest number of the block that comes next. The scan stops where a number reaches the cells of the
+/// block divided by those of a case, since none is greater.
 pub fn solve_block(
     inst: Inst,
     t: &Table,

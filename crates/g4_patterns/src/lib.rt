@@ -1,4 +1,4 @@
-// Four blocks: the recursive four-block pattern, by prefix maxima.
+//! Four blocks: the recursive four-block pattern, by prefix maxima.
 #![tactic(auto)]
 
 mod closing;

@@ -7,7 +7,7 @@ ghost use Rattle.g4_patterns.specs.Scan.{first_at, second_at, Reached, CoversY, 
 use block_tables::{Best, Job, Split, Table, look_from, row_of, uniform_of};
 use plan_geometry::Inst;
 
-// The greatest of the first terms so far, and the place of its y cut.
+/// The greatest of the first terms so far, and the place of its y cut.
 #[derive(Clone, Copy, PartialEq, Eq, Debug)]
 pub struct Top {
     pub value: u32,
@@ -124,8 +124,8 @@ fn scan_x1(q: Job<'_>, bound: u32, best: Best) -> Best
     best
 }
 
-// The greatest number of the block that comes next. The scan stops where a number reaches the cells of the
-// block divided by those of a case, since none is greater.
+/// The greatest number of the block that comes next. The scan stops where a number reaches the cells of the
+/// block divided by those of a case, since none is greater.
 pub fn solve_block(
     inst: Inst,
     t: &Table,

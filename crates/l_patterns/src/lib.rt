@@ -1,5 +1,5 @@
-// Patterns of L-regions: a pallet cut again and again into two L-regions, and the search for the greatest
-// number of cases that this reaches.
+//! Patterns of L-regions: a pallet cut again and again into two L-regions, and the search for the greatest
+//! number of cases that this reaches.
 #![tactic(auto)]
 
 mod answers;

@@ -1,4 +1,4 @@
-// The moves that bring a pallet onto itself, and the variants of a layer that they give.
+//! The moves that bring a pallet onto itself, and the variants of a layer that they give.
 #![tactic(auto)]
 
 mod images;

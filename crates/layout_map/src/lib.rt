@@ -1,4 +1,4 @@
-// The chain map of a layout onto an instance with the same sides.
+//! The chain map of a layout onto an instance with the same sides.
 #![tactic(auto)]
 
 mod laws;

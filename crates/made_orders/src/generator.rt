@@ -7,14 +7,14 @@ const MULTIPLIER: u64 = 6364136223846793005;
 
 const INCREMENT: u64 = 1442695040888963407;
 
-// A linear congruential generator modulo 2^64.
+/// A linear congruential generator modulo 2^64.
 #[derive(Drop)]
 pub struct Generator {
     pub state: u64,
 }
 
 impl Generator {
-    // A number below `below`: the state moves, and then gives its upper 31 bits.
+    /// A number below `below`: the state moves, and then gives its upper 31 bits.
     #[tactic(auto, unfolding(crate::specs::Draws::next_state, crate::specs::Draws::given_by))]
     pub fn draw(&mut self, below: u32) -> u32
         requires { 1 ≤ below }

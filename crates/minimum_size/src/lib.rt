@@ -1,4 +1,4 @@
-// The least instance whose sides have the same partitions, after Martins and Dell 2007.
+//! The least instance whose sides have the same partitions, after Martins and Dell 2007.
 #![tactic(auto)]
 
 mod laws;

@@ -14,13 +14,15 @@ pub enum RowFault {
     OutOfRange { field: Field },
     /// The case fits on the pallet in neither way.
     DoesNotFit,
-    /// The pallet's area, grown by the gap, is too large for the case, grown by the gap.
+    /// By area more than 1,000 cases fit: the pallet's area, its sides grown by the gap, divided by the case's, grown alike.
     TooManyCases,
 }
 
 /// Why an order was not made.
 #[derive(Clone, Copy, PartialEq, Eq, Debug)]
 pub enum OrderFail {
+    /// The id or a number is not such as an order has.
     Fault(RowFault),
+    /// Memory was refused.
     Memory,
 }

@@ -29,6 +29,7 @@ pub enum ReadStop {
     NoHeader,
     /// More rows follow the header than a file may have.
     TooManyRows,
+    /// Memory was refused.
     Memory,
 }
 

@@ -1,4 +1,4 @@
-// Partitions of a side of the pallet into sides of the case, after Martins and Dell 2007.
+//! Partitions of a side of the pallet into sides of the case, after Martins and Dell 2007.
 #![tactic(auto)]
 
 mod laws;

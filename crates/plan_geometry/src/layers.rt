@@ -42,6 +42,7 @@ impl Layer {
         Some(Layer { inst, spots })
     }
 
+    /// The pallet and the case.
     pub fn inst(&self) -> Inst
         ensures value { result ≡ self.now.inst }
         ensures layer { IsLayer self.now.inst self.now.spots }
@@ -49,6 +50,7 @@ impl Layer {
         self.inst
     }
 
+    /// How many cases there are.
     pub fn count(&self) -> u32
         ensures value { result ≡ length self.now.spots }
         ensures layer { IsLayer self.now.inst self.now.spots }
@@ -56,6 +58,7 @@ impl Layer {
         self.spots.len() as u32
     }
 
+    /// The case at a place of the order, counted from 0.
     pub fn spot(&self, k: u32) -> Spot
         requires { k < length self.now.spots }
         ensures value { slice_get self.now.spots k ≡ Some result }

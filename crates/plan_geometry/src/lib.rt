@@ -1,4 +1,4 @@
-// Spots, layouts and layers of equal cases on a pallet, and the bounds on how many cases a layout holds.
+//! Spots, layouts and layers of equal cases on a pallet, and the bounds on how many cases a layout holds.
 #![tactic(auto)]
 
 mod areas;

@@ -1,4 +1,4 @@
-// The normal places and the raster places of a side of the pallet, after Scheithauer and Terno.
+//! The normal places and the raster places of a side of the pallet, after Scheithauer and Terno.
 #![tactic(auto)]
 
 mod laws;

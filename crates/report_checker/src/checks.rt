@@ -13,14 +13,14 @@ use plan_memory::Memory;
 use stack_builder::{layers_allowed, stack};
 use std::alloc::Global;
 
-// Whether the planned instance has the same sides as the order's own.
+/// Whether the planned instance has the same sides as the order's own.
 pub fn keeps_sides(plan: &Plan) -> bool
     ensures { IsTrue result ↔ KeepsSides plan.now }
 {
     same_sides(plan.order.inst(), plan.reduced)
 }
 
-// Whether the certificate shows the bound.
+/// Whether the certificate shows the bound.
 pub fn shows_bound(alloc: Global, plan: &Plan) -> Result<bool, Memory>
     requires few { plan.now.bound ≤ 1000 }
     requires marks { HasFewMarks plan.now.cert }
@@ -35,7 +35,7 @@ pub fn shows_bound(alloc: Global, plan: &Plan) -> Result<bool, Memory>
     )
 }
 
-// Whether `optimal` stands exactly where count and bound are equal.
+/// Whether `optimal` stands exactly where count and bound are equal.
 pub fn tells_status(plan: &Plan) -> bool
     ensures { IsTrue result ↔ TellsStatus plan.now }
 {
@@ -45,7 +45,7 @@ pub fn tells_status(plan: &Plan) -> bool
     }
 }
 
-// Whether as many layers are allowed as the order's height and weight allow.
+/// Whether as many layers are allowed as the order's height and weight allow.
 pub fn tells_allowed(plan: &Plan) -> bool
     requires some { 1 ≤ plan.now.count }
     requires few { plan.now.count ≤ 1000 }
@@ -54,7 +54,7 @@ pub fn tells_allowed(plan: &Plan) -> bool
     plan.allowed == layers_allowed(&plan.order, plan.count)
 }
 
-// Whether the stack is that of the variants, which the listed layers are.
+/// Whether the stack is that of the variants, which the listed layers are.
 pub fn tells_stack(
     alloc: Global,
     plan: &Plan,

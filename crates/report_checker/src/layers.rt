@@ -46,7 +46,7 @@ fn layer_of(
     }
 }
 
-// The first listed layer, or the number of the first one that is no layer of the order.
+/// The first listed layer, or the number of the first one that is no layer of the order.
 pub fn first_layer(
     alloc: Global,
     order: &Order,
@@ -96,7 +96,7 @@ fn is_variant(given: Inst, listed: &Listed, variant: &(Move, Layer)) -> bool
     are_same(listed.spots.as_slice(), layer.spots())
 }
 
-// The first place, from 1, at which the listed layers are not these variants.
+/// The first place, from 1, at which the listed layers are not these variants.
 pub fn first_difference(given: Inst, layers: &[Listed], variants: &[(Move, Layer)]) -> Option<u32>
     requires few { length layers.now ≤ 8 }
     ensures { MatchOption result

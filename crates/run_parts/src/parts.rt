@@ -13,7 +13,9 @@ use std::alloc::Global;
 /// Why a text was not written to its end.
 #[derive(Clone, Copy, PartialEq, Eq, Debug)]
 pub enum WriteStop {
+    /// The sink failed.
     Fault,
+    /// Memory was refused.
     Memory,
 }
 

@@ -23,7 +23,7 @@ fn add_asked(rules: &mut Vec<Rule>, asked: bool, rule: Rule) -> Result<(), Memor
     Ok(())
 }
 
-// The rules that are asked for, in order.
+/// The rules that are asked for, in order.
 pub fn asked(alloc: Global, contact: u32, support: u32, cut: u32) -> Result<Vec<Rule>, Memory>
     requires contact { contact ≤ 100 }
     requires cut { cut ≤ 100 }
@@ -59,7 +59,7 @@ fn marked(
     Ok(UnmetRules::new(unmet))
 }
 
-// The least stack under these rules, or the rules marked.
+/// The least stack under these rules, or the rules marked.
 pub fn stack_under(
     alloc: Global,
     inst: Inst,

@@ -1,5 +1,5 @@
-// How many layers an order allows, and the least stack of variants in which each two neighbours meet the
-// rules that it asks for.
+//! How many layers an order allows, and the least stack of variants in which each two neighbours meet the
+//! rules that it asks for.
 #![tactic(auto)]
 
 mod answers;

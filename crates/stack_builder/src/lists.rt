@@ -18,12 +18,14 @@ impl Model for VariantNumbers {
 }
 
 impl VariantNumbers {
+    /// These numbers, the lowest layer first.
     pub fn new(numbers: Vec<u32>) -> VariantNumbers
         ensures { result ≡ numbers.items }
     {
         VariantNumbers { numbers }
     }
 
+    /// The numbers, the lowest layer first.
     pub fn as_slice(&self) -> &[u32]
         ensures { result.now ≡ self.now }
     {
@@ -54,12 +56,14 @@ impl Model for UnmetRules {
 }
 
 impl UnmetRules {
+    /// These rules, in the order in which they are asked for.
     pub fn new(rules: Vec<UnmetRule>) -> UnmetRules
         ensures { result ≡ rules.items }
     {
         UnmetRules { rules }
     }
 
+    /// The rules, in the order in which they are asked for.
     pub fn as_slice(&self) -> &[UnmetRule]
         ensures { result.now ≡ self.now }
     {

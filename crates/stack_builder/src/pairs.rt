@@ -53,7 +53,7 @@ fn pair_goes(
     true
 }
 
-// The table of which variants go upon which.
+/// The table of which variants go upon which.
 pub fn table(
     alloc: Global,
     inst: Inst,
@@ -78,7 +78,7 @@ pub fn table(
     Ok(table)
 }
 
-// Whether no two of the variants meet the rule.
+/// Whether no two of the variants meet the rule.
 pub fn is_alone(inst: Inst, gap: u32, rule: Rule, variants: &[(Move, Layer)]) -> bool
     requires gap { IsGapOf inst gap }
     requires rule { IsLawfulRule rule }

@@ -4,7 +4,7 @@ ghost use Rattle.stack_builder.specs.Goes.{GoesIn, CanGoOn, AreReaches, IsFirstN
 use plan_memory::Memory;
 use std::alloc::Global;
 
-// The least number that may follow and from which j more can be added.
+/// The least number that may follow and from which j more can be added.
 pub fn first_next(goes: &[bool], count: usize, last: usize, reach: &[u32], j: u32) -> Option<usize>
     requires count { count ≤ 8 }
     requires size { length goes.now ≡ count * count }
@@ -23,7 +23,7 @@ pub fn first_next(goes: &[bool], count: usize, last: usize, reach: &[u32], j: u3
     None
 }
 
-// For each number, how many more can be added to a stack that ends with it, if at most limit.
+/// For each number, how many more can be added to a stack that ends with it, if at most limit.
 pub fn reaches(alloc: Global, goes: &[bool], count: usize, limit: u32) -> Result<Vec<u32>, Memory>
     requires count { count ≤ 8 }
     requires limit { limit ≤ 10000 }

@@ -1,4 +1,4 @@
-// The strip bound of an instance, and its certificate.
+//! The strip bound of an instance, and its certificate.
 #![tactic(auto)]
 
 mod lists;

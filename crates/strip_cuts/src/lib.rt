@@ -1,5 +1,5 @@
-// Strip cuts: what the unit lines along x and along y of a pallet demand of its lying and standing cases, and the
-// certificates that such cuts make.
+//! Strip cuts: what the unit lines along x and along y of a pallet demand of its lying and standing cases, and the
+//! certificates that such cuts make.
 #![tactic(auto)]
 
 mod cuts;
