@@ -35,8 +35,8 @@ fn place_of(points: &Points, s: u32) -> u32
     unreachable!()
 }
 
-// For each length up to the pallet's side, where the greatest normal place up to it stands.
-fn places_of(alloc: Global, axis: Axis, inst: Inst, points: &Points) -> Result<Vec<u32>, Memory>
+/// For each length up to the pallet's side, where the greatest normal place up to it stands.
+pub fn places_of(alloc: Global, axis: Axis, inst: Inst, points: &Points) -> Result<Vec<u32>, Memory>
     requires points { ArePoints points.now }
     requires side { ArePointsOf axis inst points.now }
     requires few { length points.now.normal ≤ 200 }

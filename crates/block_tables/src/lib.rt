@@ -9,7 +9,7 @@ mod patterns;
 mod tables;
 
 pub use building::{better_way, five_nodes, tree_of};
-pub use filling::{Filling, empty_filling, write_block};
+pub use filling::{Filling, empty_filling, places_of, write_block};
 pub use laws::{numbers_are_admitted, numbers_fit_in_cells};
 pub use patterns::Pattern;
 pub use tables::{Best, Job, Split, Table, look_at, look_from, row_of, uniform_of};

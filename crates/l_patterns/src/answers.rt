@@ -8,7 +8,8 @@ ghost use Rattle.l_patterns.specs.States.{IsRoot};
 use crate::building::build;
 use crate::knowledge::{Held, Search};
 use crate::running::run;
-use crate::sides::{Side, Sides, places_of};
+use crate::sides::{Side, Sides};
+use block_tables::places_of;
 use block_tree::{BlockTree, Region, rectangle};
 use lru::LruCache;
 use plan_geometry::{Axis, Inst};
@@ -17,11 +18,8 @@ use raster_points::Points;
 use std::alloc::Global;
 use std::num::NonZeroUsize;
 
-// How many regions the memo remembers.
+// How many regions the memo remembers, and so how many a search tries at most.
 const MEMO_ENTRIES: usize = 262_144;
-
-// The limit of a search, in regions, where none is asked for.
-const LIMIT: u32 = 300_000;
 
 /// The best tree of L-regions that a search found, and whether no such tree of the pallet, its sides
 /// rounded down to normal places, holds more.
@@ -141,5 +139,5 @@ pub fn ell_search(alloc: Global, inst: Inst, px: &Points, py: &Points) -> Result
     ensures more { IfOk result (λ a. a.complete ≡ false → HasMore inst 262144) }
     ensures ell_size { IsEllSize px.now.normal py.now.normal → IfOk result (λ a. a.complete ≡ true) }
 {
-    ell_search_within(alloc, inst, px, py, LIMIT)
+    ell_search_within(alloc, inst, px, py, MEMO_ENTRIES as u32)
 }
