@@ -116,7 +116,7 @@ fn planned_and_accepted(rt: HostRuntime) -> Result<(), Fail> {
     let Ok(text) = str::from_utf8(&hard.written) else {
         return Err("no text".into());
     };
-    assert!(rt; text.contains("\nreduced 43 26 7 3\n"));
+    assert!(rt; text.contains("\nreduced 43 26 7 3\ncount 53\nbound 53\nstatus optimal\n"));
     for report in [&many.written, &hard.written] {
         let answer = ran(&rt, alloc, "check", report)?;
         assert!(rt; answer.written.as_slice() == b"entry 1 yes\ndone 1\n".as_slice());
