@@ -4,7 +4,7 @@ ghost use Rattle.plan_geometry.specs.Placed.{IsLayer};
 ghost use Rattle.plan_geometry.specs.Grid.{grid_count, uniform_way, IsGrid};
 
 use crate::instances::Inst;
-use crate::layouts::{extent_along, is_layout};
+use crate::layouts::{extent_along, is_layout_by_rows};
 use crate::spots::{Axis, Spot, Way};
 use plan_memory::Memory;
 use std::alloc::Global;
@@ -35,10 +35,10 @@ impl Layer {
         ensures same { IfSome result (λ a. IsPermutation spots.items a.spots) }
         ensures layer { IfSome result (λ a. IsLayer a.inst a.spots) }
     {
-        if !is_layout(inst, spots.as_slice()) {
+        spots.as_mut_slice().sort_unstable_by_key(|s| (s.y, s.x));
+        if !is_layout_by_rows(inst, spots.as_slice()) {
             return None;
         }
-        spots.as_mut_slice().sort_unstable_by_key(|s| (s.y, s.x));
         Some(Layer { inst, spots })
     }
 
