@@ -1,12 +1,11 @@
 -- Verdicts of the first entries, and their lines.
-use Rattle.std.proofs.Common.{◌≡◌, ℕ, zero, suc, ◌+◌, ◌≤◌, ◌<◌, List, [], ◌∷◌, ◌++◌, length, get_or, take, drop, Option, ap, refl, sym, subst, ◌∙◌, arith, append_assoc, eqb-true, eq-eqb}
+use Rattle.std.proofs.Common.{◌≡◌, ℕ, zero, suc, ◌+◌, ◌≤◌, ◌<◌, List, [], ◌∷◌, ◌++◌, length, get_or, take, drop, ap, refl, sym, subst, ◌∙◌, arith, append_assoc, eqb-true, eq-eqb}
 use Rattle.std.specs.Prelude.{Bool, true, false, ◌==◌, ◌||◌}
 use Rattle.std.proofs.Math.Bool.{or-false}
 use Rattle.std.proofs.Math.Seq.{take-append-add}
 use Rattle.std.proofs.lemmas.List.{append-nil, take-append-le, take_all, take_more, length-take, length-take-le, length-append}
 use Rattle.std.proofs.lemmas.List.Folds.{list_any-append}
-use Rattle.run_parts.specs.Written.{IsPrefixOf, AppendsPart}
-use Rattle.run_parts.proofs.Pieces.{part-more}
+use Rattle.run_parts.specs.Written.{IsPrefixOf}
 use Rattle.plan_entries.specs.declared.entries.Entry.{Entry}
 use Rattle.report_text.specs.Reports.{done_text}
 use Rattle.report_checker.specs.declared.verdicts.Verdict.{Verdict}
@@ -118,10 +117,10 @@ begun-part es vs all false same first count =
           ∙ ap (λ t. t ++ (more ++ done_text (length es))) (sym (append-nil (verdict_lines es vs))),
     )
 
-part-of : (a b : Option (List ℕ)) (text front : List ℕ) → IsPrefixOf text front → AppendsPart a b front → AppendsPart a b text
-part-of a b text front (rest, is) part = subst (AppendsPart a b) (sym is) (part-more a b front rest part)
+prefix-trans : (text front sent : List ℕ) → IsPrefixOf text front → IsPrefixOf front sent → IsPrefixOf text sent
+prefix-trans text front sent (rest, is) (more, has) = (more ++ rest, is ∙ ap (λ t. t ++ rest) has ∙ append_assoc sent more rest)
 
--- what was begun is a part of the text that is due
-pub begun-due : (a b : Option (List ℕ)) (es : List Entry) (vs all : List Verdict) → AreFirstVerdicts es vs → AppendsPart a b (begun_text es vs) → AreVerdicts es all → AppendsPart a b (verdicts_text es all)
-begun-due a b es vs all first part are =
-    part-of a b (verdicts_text es all) (begun_text es vs) (begun-part es vs all (length vs == length es) refl (are-first es vs all first are) are.as_many) part
+-- the front of what was begun is one of the text that is due
+pub begun-due : (es : List Entry) (vs all : List Verdict) (sent : List ℕ) → AreFirstVerdicts es vs → IsPrefixOf (begun_text es vs) sent → AreVerdicts es all → IsPrefixOf (verdicts_text es all) sent
+begun-due es vs all sent first front are =
+    prefix-trans (verdicts_text es all) (begun_text es vs) sent (begun-part es vs all (length vs == length es) refl (are-first es vs all first are) are.as_many) front

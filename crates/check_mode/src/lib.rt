@@ -3,10 +3,13 @@
 #![tactic(auto)]
 
 mod checks;
+mod laws;
 mod reading;
 mod upgrades;
+mod writing;
 
 pub use checks::check;
+pub use laws::{checks_are_complete, upgrades_are_complete};
 pub use upgrades::upgrade;
 
 #[cfg(test)]

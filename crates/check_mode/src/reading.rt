@@ -1,10 +1,40 @@
-// What is answered where a report could not be read, or a text not be written.
-ghost use Rattle.std.specs.Prelude.{◌≡◌};
+// Reading a report, and the answer of a run that gets none.
+ghost use Rattle.std.specs.Prelude.{◌≡◌, ◌≤◌, length, IfOk, IfErr};
+ghost use Rattle.plan_io.specs.Streams.{Intake, at_end};
+ghost use Rattle.check_mode.specs.Reading.{most_bytes, HasReport, GotNoReport};
 
-use run_parts::{Answer, Code};
+use plan_io::Source;
+use report_text::{Entries, ReportFault, check_text};
+use run_parts::{Answer, Code, read_input};
+use std::alloc::Global;
 
 /// How many bytes a report may have.
-pub(crate) const MOST_BYTES: usize = 268435456;
+const MOST_BYTES: usize = 268435456;
+
+// All bytes of the source, which may be those of a report; or the answer of a run that has none.
+pub(crate) fn read_bytes<S: Source>(alloc: Global, source: &mut S) -> Result<Vec<u8>, Answer>
+    ensures read { IfOk result (λ bytes. S.past source.new ≡ at_end (S.past source.old) bytes.items) }
+    ensures few { IfOk result (λ bytes. length bytes.items ≤ most_bytes) }
+    ensures none { IfErr result (λ a. GotNoReport (S.past source.old) a.code a.line (S.past source.new)) }
+{
+    match read_input(alloc, source, MOST_BYTES) {
+        Ok(bytes) => Ok(bytes),
+        Err(code) => Err(plain(code)),
+    }
+}
+
+// The entries of the report whose text these bytes are, all of its source; or the answer of a run that has none.
+pub(crate) fn entries_of(alloc: Global, bytes: &[u8]) -> Result<Entries<'_>, Answer>
+    requires { length bytes.now ≤ most_bytes }
+    ensures found { IfOk result (λ r. HasReport bytes.now r) }
+    ensures none { IfErr result (λ a. (from : Intake) → GotNoReport from a.code a.line (at_end from bytes.now)) }
+{
+    match check_text(alloc, bytes) {
+        Ok(entries) => Ok(entries),
+        Err(ReportFault::Memory) => Err(plain(Code::Memory)),
+        Err(ReportFault::Line(line)) => Err(bad_report(line)),
+    }
+}
 
 // The answer of a run that found no line at fault.
 pub(crate) fn plain(code: Code) -> Answer
@@ -15,7 +45,7 @@ pub(crate) fn plain(code: Code) -> Answer
 }
 
 // The answer of a run whose input is no report from this line on.
-pub(crate) fn bad_report(line: u32) -> Answer
+fn bad_report(line: u32) -> Answer
     ensures code { result.code ≡ Code.BadReport }
     ensures line { result.line ≡ line }
 {

@@ -136,3 +136,30 @@ fn upgrades(rt: HostRuntime) -> Result<(), Fail> {
     assert!(rt; written.written() == EIGHT_TODAY);
     Ok(())
 }
+
+#[test]
+fn faults(rt: HostRuntime) -> Result<(), Fail> {
+    let alloc = rt.alloc();
+    let text = THREE.to_vec(alloc)?;
+    let mut broken = MemSource::new(text, 4096, vec![in alloc; 1]?);
+    let mut written = sink(alloc)?;
+    let answer = check(&rt, alloc, &OpenGate, 1, &mut broken, &mut written);
+    assert!(rt; answer.code == Code::ReadFault && answer.line == 0);
+    assert!(rt; written.written().is_empty());
+    let mut broken = MemSink::new(alloc, 4096, 4096, vec![in alloc; 2]?)?;
+    let answer = check(
+        &rt,
+        alloc,
+        &OpenGate,
+        2,
+        &mut source(alloc, THREE)?,
+        &mut broken,
+    );
+    assert!(rt; answer.code == Code::WriteFault && answer.line == 0);
+    assert!(rt; broken.written() == b"entry 1 refused\n".as_slice());
+    let mut narrow = MemSink::new(alloc, 4096, 20, vec![in alloc; 2]?)?;
+    let answer = upgrade(alloc, &mut source(alloc, THREE)?, &mut narrow);
+    assert!(rt; answer.code == Code::WriteFault && answer.line == 0);
+    assert!(rt; narrow.written() == b"pallet-report 2\n".as_slice());
+    Ok(())
+}

@@ -1,61 +1,39 @@
 // Writing the entries of a report in the form of today.
-ghost use Rattle.std.specs.Prelude.{◌≡◌, ◌≢◌, ◌≤◌, ◌⊎◌, ◌+◌, ◌++◌, ◌∷◌, ◌<◌, [], List, length, All, IfOk, OnOk, IsErrOf, MatchOption};
-ghost use Rattle.std.specs.Io.KnownBytes.{Appends};
+ghost use Rattle.std.specs.Prelude.{◌≡◌, ◌≢◌, ◌≤◌, ◌⊎◌, ◌++◌, ◌∷◌, ◌<◌, [], List, length, All, IfOk, OnOk, IsErrOf, MatchOption};
 ghost use Rattle.plan_io.specs.Causes.{Rose};
-ghost use Rattle.plan_io.specs.Bytes.{TookAtMost, TookCount};
-ghost use Rattle.run_parts.specs.Codes.{WritesNothing, IsQuietOrMemory};
-ghost use Rattle.run_parts.specs.Written.{AppendsPart};
+ghost use Rattle.run_parts.specs.Codes.{WritesNothing};
+ghost use Rattle.run_parts.specs.Written.{Wrote, WrotePart};
 ghost use Rattle.cert_text.specs.declared.forms.Form.TheVariants.{Two};
 ghost use Rattle.plan_entries.specs.Ranges.{IsInRange};
 ghost use Rattle.plan_entries.specs.declared.entries.Entry.{Entry};
 ghost use Rattle.report_text.specs.Text.{entry_text};
-ghost use Rattle.report_text.specs.Reports.{head_text, entries_text, done_text, report_text};
-ghost use Rattle.check_mode.specs.Reading.{most_bytes, HasNoReport, TellsReport, IsReportCode};
-ghost use Rattle.check_mode.specs.Upgrades.{Upgraded, UpgradedInPart, UpgradedFirst};
+ghost use Rattle.report_text.specs.Reports.{head_text, entries_text, report_text};
+ghost use Rattle.check_mode.specs.Upgrades.{UpgradeRan};
 
-use crate::reading::{MOST_BYTES, bad_report, plain};
+use crate::reading::{entries_of, plain, read_bytes};
+use crate::writing::write_done;
 use plan_entries::Entry;
 use plan_io::{Sink, Source};
 use plan_memory::Memory;
-use report_text::{Entries, ReportFault, check_text, put_done, put_entry, put_head};
-use run_parts::{Answer, Code, WriteStop, read_input, send};
+use report_text::{Entries, put_entry, put_head};
+use run_parts::{Answer, Code, WriteStop, send};
 use std::alloc::Global;
 
 /// Reads a report of either form, and writes the report of its very entries in the form of today. The whole text is read
 /// once before anything is written. Nothing is judged.
 pub fn upgrade<S: Source, K: Sink>(alloc: Global, source: &mut S, sink: &mut K) -> Answer
-    ensures done { result.code ≡ Code.Done
-        → Upgraded (S.left source.old) (S.left source.new) (K.written sink.old) (K.written sink.new) }
-    ensures no_findings { result.code ≢ Code.Findings }
-    ensures too_long { result.code ≡ Code.TooLong
-        → TookCount (S.left source.old) (S.left source.new) (most_bytes + 1) }
-    ensures bad_report { result.code ≡ Code.BadReport
-        → HasNoReport (S.left source.old) (S.left source.new) result.line }
-    ensures line { result.code ≢ Code.BadReport → result.line ≡ 0 }
-    ensures read_fault { result.code ≡ Code.ReadFault → Rose (S.faults source.old) (S.faults source.new) }
-    ensures read_part { result.code ≡ Code.ReadFault
-        → TookAtMost (S.left source.old) (S.left source.new) most_bytes }
-    ensures write_fault { result.code ≡ Code.WriteFault → Rose (K.faults sink.old) (K.faults sink.new) }
-    ensures write_part { result.code ≡ Code.WriteFault
-        → UpgradedInPart (S.left source.old) (S.left source.new) (K.written sink.old) (K.written sink.new) }
-    ensures memory { result.code ≡ Code.Memory → (sink.new ≡ sink.old)
-        ⊎ UpgradedFirst (S.left source.old) (S.left source.new) (K.written sink.old) (K.written sink.new) }
-    ensures other { IsReportCode result.code }
+    ensures ran { UpgradeRan (S.past source.old) (K.past sink.old) result.code result.line (S.past source.new) (K.past sink.new) }
     ensures nothing { WritesNothing result.code → sink.new ≡ sink.old }
-    ensures complete { TellsReport (S.left source.old)
-        → ¬ Rose (S.faults source.old) (S.faults source.new) → ¬ Rose (K.faults sink.old) (K.faults sink.new)
-        → IsQuietOrMemory result.code }
-    ensures source_later { S.faults source.old ≤ S.faults source.new }
-    ensures sink_later { K.faults sink.old ≤ K.faults sink.new }
+    // A sink that took nothing was not called, unless a write failed.
+    ensures untouched { result.code ≢ Code.WriteFault → K.past sink.new ≡ K.past sink.old → sink.new ≡ sink.old }
 {
-    let bytes = match read_input(alloc, source, MOST_BYTES) {
+    let bytes = match read_bytes(alloc, source) {
         Ok(bytes) => bytes,
-        Err(code) => return plain(code),
+        Err(answer) => return answer,
     };
-    let mut entries = match check_text(alloc, &bytes) {
+    let mut entries = match entries_of(alloc, &bytes) {
         Ok(entries) => entries,
-        Err(ReportFault::Memory) => return plain(Code::Memory),
-        Err(ReportFault::Line(line)) => return bad_report(line),
+        Err(answer) => return answer,
     };
     match write_report(alloc, &mut entries, sink) {
         Ok(()) => plain(Code::Done),
@@ -71,14 +49,14 @@ fn write_report<K: Sink>(
     sink: &mut K,
 ) -> Result<(), WriteStop>
     requires { All (IsInRange Two) entries.old.entries }
-    ensures ok { OnOk result (Appends (K.written sink.old) (K.written sink.new) (report_text Two entries.old.entries)) }
+    ensures ok { OnOk result (Wrote (K.past sink.old) (K.past sink.new) (report_text Two entries.old.entries)) }
     ensures part { IsErrOf result WriteStop.Fault
-        → AppendsPart (K.written sink.old) (K.written sink.new) (report_text Two entries.old.entries) }
-    ensures rose { IsErrOf result WriteStop.Fault → Rose (K.faults sink.old) (K.faults sink.new) }
+        → WrotePart (K.past sink.old) (K.past sink.new) (report_text Two entries.old.entries) }
+    ensures rose { IsErrOf result WriteStop.Fault → Rose (K.past sink.old).faults (K.past sink.new).faults }
     ensures memory { IsErrOf result WriteStop.Memory → (sink.new ≡ sink.old)
         ⊎ ((first : List Entry) × (rest : List Entry) × (entries.old.entries ≡ first ++ rest)
-        × Appends (K.written sink.old) (K.written sink.new) (head_text Two ++ entries_text Two first)) }
-    ensures later { K.faults sink.old ≤ K.faults sink.new }
+        × Wrote (K.past sink.old) (K.past sink.new) (head_text Two ++ entries_text Two first)) }
+    ensures later { (K.past sink.old).faults ≤ (K.past sink.new).faults }
 {
     let count = entries.left();
     let Ok(first) = first_line(alloc) else {
@@ -86,10 +64,7 @@ fn write_report<K: Sink>(
     };
     send(sink, &first)?;
     write_entries(alloc, entries, sink)?;
-    let Ok(last) = last_line(alloc, count) else {
-        return Err(WriteStop::Memory);
-    };
-    send(sink, &last)
+    write_done(alloc, count, sink)
 }
 
 // The first line.
@@ -101,15 +76,6 @@ fn first_line(alloc: Global) -> Result<Vec<u8>, Memory>
     Ok(text)
 }
 
-// The last line.
-fn last_line(alloc: Global, count: u32) -> Result<Vec<u8>, Memory>
-    ensures { IfOk result (λ text. text.items ≡ done_text count) }
-{
-    let mut text = Vec::new(alloc);
-    put_done(&mut text, count)?;
-    Ok(text)
-}
-
 // Writes the text of each entry.
 fn write_entries<K: Sink>(
     alloc: Global,
@@ -117,14 +83,14 @@ fn write_entries<K: Sink>(
     sink: &mut K,
 ) -> Result<(), WriteStop>
     requires { All (IsInRange Two) entries.old.entries }
-    ensures ok { OnOk result (Appends (K.written sink.old) (K.written sink.new) (entries_text Two entries.old.entries)) }
+    ensures ok { OnOk result (Wrote (K.past sink.old) (K.past sink.new) (entries_text Two entries.old.entries)) }
     ensures part { IsErrOf result WriteStop.Fault
-        → AppendsPart (K.written sink.old) (K.written sink.new) (entries_text Two entries.old.entries) }
-    ensures rose { IsErrOf result WriteStop.Fault → Rose (K.faults sink.old) (K.faults sink.new) }
+        → WrotePart (K.past sink.old) (K.past sink.new) (entries_text Two entries.old.entries) }
+    ensures rose { IsErrOf result WriteStop.Fault → Rose (K.past sink.old).faults (K.past sink.new).faults }
     ensures memory { IsErrOf result WriteStop.Memory
         → (first : List Entry) × (rest : List Entry) × (entries.old.entries ≡ first ++ rest)
-        × Appends (K.written sink.old) (K.written sink.new) (entries_text Two first) }
-    ensures later { K.faults sink.old ≤ K.faults sink.new }
+        × Wrote (K.past sink.old) (K.past sink.new) (entries_text Two first) }
+    ensures later { (K.past sink.old).faults ≤ (K.past sink.new).faults }
 {
     while entries.left() > 0 {
         write_next(alloc, entries, sink)?;
@@ -141,12 +107,12 @@ fn write_next<K: Sink>(
     requires some { 0 < length entries.old.entries }
     requires ranges { All (IsInRange Two) entries.old.entries }
     ensures ok { OnOk result ((e : Entry) × (entries.old.entries ≡ e ∷ entries.new.entries)
-        × Appends (K.written sink.old) (K.written sink.new) (entry_text Two e)) }
+        × Wrote (K.past sink.old) (K.past sink.new) (entry_text Two e)) }
     ensures part { IsErrOf result WriteStop.Fault
-        → AppendsPart (K.written sink.old) (K.written sink.new) (entries_text Two entries.old.entries) }
-    ensures rose { IsErrOf result WriteStop.Fault → Rose (K.faults sink.old) (K.faults sink.new) }
+        → WrotePart (K.past sink.old) (K.past sink.new) (entries_text Two entries.old.entries) }
+    ensures rose { IsErrOf result WriteStop.Fault → Rose (K.past sink.old).faults (K.past sink.new).faults }
     ensures memory { IsErrOf result WriteStop.Memory → sink.new ≡ sink.old }
-    ensures later { K.faults sink.old ≤ K.faults sink.new }
+    ensures later { (K.past sink.old).faults ≤ (K.past sink.new).faults }
 {
     let Some(entry) = next_entry(alloc, entries)? else {
         unreachable!();
@@ -168,12 +134,12 @@ fn next_entry(alloc: Global, entries: &mut Entries<'_>) -> Result<Option<Entry>,
 // Writes the text of an entry.
 fn write_entry<K: Sink>(alloc: Global, entry: &Entry, sink: &mut K) -> Result<(), WriteStop>
     requires { IsInRange Two entry.now }
-    ensures ok { OnOk result (Appends (K.written sink.old) (K.written sink.new) (entry_text Two entry.now)) }
+    ensures ok { OnOk result (Wrote (K.past sink.old) (K.past sink.new) (entry_text Two entry.now)) }
     ensures part { IsErrOf result WriteStop.Fault
-        → AppendsPart (K.written sink.old) (K.written sink.new) (entry_text Two entry.now) }
-    ensures rose { IsErrOf result WriteStop.Fault → Rose (K.faults sink.old) (K.faults sink.new) }
+        → WrotePart (K.past sink.old) (K.past sink.new) (entry_text Two entry.now) }
+    ensures rose { IsErrOf result WriteStop.Fault → Rose (K.past sink.old).faults (K.past sink.new).faults }
     ensures memory { IsErrOf result WriteStop.Memory → sink.new ≡ sink.old }
-    ensures later { K.faults sink.old ≤ K.faults sink.new }
+    ensures later { (K.past sink.old).faults ≤ (K.past sink.new).faults }
 {
     let mut text = Vec::new(alloc);
     if put_entry(&mut text, entry).is_err() {

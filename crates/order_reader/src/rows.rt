@@ -27,7 +27,7 @@ pub enum Row {
 pub enum ReadStop {
     /// There is no record, or the first is neither header.
     NoHeader,
-    /// More rows follow the header than a file may have.
+    /// More than 256 rows follow the header.
     TooManyRows,
     /// Memory was refused.
     Memory,
@@ -41,10 +41,10 @@ pub const MOST_ROWS: usize = 256;
 /// column `gap` at the end and without it.
 pub fn read_orders(alloc: Global, bytes: &[u8]) -> Result<Vec<Row>, ReadStop>
     ensures rows { IfOk result (λ v. rows_of bytes.now ≡ Some v.items) }
-    ensures few { IfOk result (λ v. length v.items ≤ MOST_ROWS) }
+    ensures few { IfOk result (λ v. length v.items ≤ 256) }
     ensures no_header { IsErrOf result ReadStop.NoHeader → rows_of bytes.now ≡ None }
     ensures too_many { IsErrOf result ReadStop.TooManyRows
-        → IsSomeAnd (rows_of bytes.now) (λ rows. MOST_ROWS < length rows) }
+        → IsSomeAnd (rows_of bytes.now) (λ rows. 256 < length rows) }
 {
     let Ok(records) = read_records(alloc, bytes) else {
         return Err(ReadStop::Memory);
@@ -100,7 +100,7 @@ fn is_header_over(fields: &ByteRecord, columns: &[Field]) -> bool
 
 // What each record is as a row.
 fn read_rows(alloc: Global, columns: &[Field], records: &[ByteRecord]) -> Result<Vec<Row>, Memory>
-    requires { length records.now ≤ MOST_ROWS }
+    requires { length records.now ≤ 256 }
     ensures { IfOk result (λ v. v.items ≡ rows_of_records columns.now (map fields_of records.now)) }
 {
     let mut rows = Vec::new(alloc);

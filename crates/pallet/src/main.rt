@@ -4,19 +4,14 @@
 mod remarks;
 
 use crate::remarks::Remark;
-use pallet_top::{Answer, Code, run};
-use plan_io::{StdSink, StdSource};
+use pallet_top::{Answer, Code, run_on};
 use std::env;
 use std::io::ErrorKind;
 use std::process::ExitCode;
 
 fn main(rt: HostRuntime) -> ExitCode {
     let answer = match words(&rt) {
-        Ok(words) => {
-            let mut source = StdSource::new(rt.stdin());
-            let mut sink = StdSink::new(rt.stdout());
-            run(&rt, rt.alloc(), &words, &mut source, &mut sink)
-        }
+        Ok(words) => run_on(&rt, rt.alloc(), &words, rt.stdin(), rt.stdout()).answer,
         Err(code) => Answer { code, line: 0 },
     };
     if answer.code != Code::Done {

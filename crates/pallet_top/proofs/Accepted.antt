@@ -1,5 +1,5 @@
 -- The verdicts on a report that `plan` wrote.
-use Rattle.std.proofs.Common.{◌≡◌, ℕ, false, List, [], ◌∷◌, ◌++◌, refl, sym, ap, subst, ◌∙◌}
+use Rattle.std.proofs.Common.{◌≡◌, false, List, [], ◌∷◌, ◌++◌, refl, sym, ap, subst, ◌∙◌}
 use Rattle.std.specs.Prelude.{map}
 use Rattle.std.specs.List.{All}
 use Rattle.std.proofs.lemmas.List.Elements.{All-head, All-tail}
@@ -34,11 +34,9 @@ same_entries es r fits is e =
     ap (λ (x : Report). x.entries) (reports_one_spelling r two [] [] is fits texts).0
 
 pub accepted : PlansAreAccepted
-accepted orders orders' text refused left written written' found p j =
-    let told : text ≡ report_text Two p.entries = p.wrote ∙ p.plain in
-    let bytes : text ≡ j.has_report.bytes = j.has_report.read.to_end.0 in
+accepted orders report refused wrote found p j =
     let r = j.has_report.is_report in
-    let same : j.report.entries ≡ p.entries = same_entries p.entries j.report p.accepted.reported r.reported (sym r.text ∙ sym bytes ∙ told) in
+    let same : j.report.entries ≡ p.entries = same_entries p.entries j.report p.accepted.reported r.reported (sym r.text ∙ p.plain) in
     let right : AreVerdicts p.entries j.verdicts = subst (λ es. AreVerdicts es j.verdicts) same j.are_verdicts in
     let are : j.verdicts ≡ map verdict_due p.entries = one-list p.entries (map verdict_due p.entries) (due p.entries p.accepted.verdicts) j.verdicts right in (
       record {
@@ -46,7 +44,7 @@ accepted orders orders' text refused left written written' found p j =
         has_rows = p.has_rows;
         entries = p.entries;
         are_entries = p.are_entries;
-        wrote = rw (are, same) at j.wrote;
+        verdicts = rw (are, same) at j.text;
       },
       sym j.finding ∙ ap any_no are ∙ none_no p.entries,
     )

@@ -1,2 +1,3 @@
-pub mod Did
+pub mod Sentences
+pub mod Ties
 pub mod Accepted

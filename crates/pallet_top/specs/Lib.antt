@@ -1,3 +1,4 @@
 pub mod Words
-pub mod Modes
+pub mod Runs
+pub mod Ties
 pub mod Laws

@@ -1,5 +1,5 @@
 pub mod Causes
-pub mod Bytes
+pub mod Streams
 pub mod MemoryStreams
 pub mod StdStreams
 pub mod Sent

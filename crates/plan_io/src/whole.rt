@@ -1,9 +1,8 @@
 // Reading a whole source and writing a whole text.
-ghost use Rattle.std.specs.Prelude.{◌≡◌, ◌≤◌, ◌+◌, ◌-◌, ◌^◌, length, take, IfOk, IfErr, OnOk, OnErr, IsErrOf};
-ghost use Rattle.std.specs.Io.KnownBytes.{Appends};
-ghost use Rattle.plan_io.specs.Sent.{sent_of};
+ghost use Rattle.std.specs.Prelude.{◌≡◌, ◌≤◌, ◌+◌, ◌++◌, true, length, take, IfOk, IfErr, OnOk, IsErrOf};
 ghost use Rattle.plan_io.specs.Causes.{Rose};
-ghost use Rattle.plan_io.specs.Bytes.{ReadToEnd, TookCount, TookAtMost};
+ghost use Rattle.plan_io.specs.Sent.{sent_of};
+ghost use Rattle.plan_io.specs.Streams.{at_end, with_bytes, broken_off, GaveCount, GaveAtMost};
 
 use crate::{Sink, Source};
 use std::alloc::Global;
@@ -30,16 +29,18 @@ pub enum WriteFail {
 const PIECE: usize = 4096;
 
 /// All bytes up to the end of input, of which there are at most `limit`. `TooLong` exactly where `limit + 1` bytes were
-/// taken, and `Fault` only where the source's count of faults rose; then at most `limit` bytes were taken.
+/// given, and `Fault` only where the count of faults rose; then at most `limit` bytes were given.
 pub fn read_all<S: Source>(alloc: Global, source: &mut S, limit: usize) -> Result<Vec<u8>, ReadFail>
     requires { limit ≤ 268435456 }
-    ensures all { IfOk result (λ v. ReadToEnd (S.left source.old) (S.left source.new) v.items) }
+    ensures all { IfOk result (λ v. S.past source.new ≡ at_end (S.past source.old) v.items) }
     ensures within { IfOk result (λ v. length v.items ≤ limit) }
-    ensures too_long { IsErrOf result ReadFail.TooLong → TookCount (S.left source.old) (S.left source.new) (limit + 1) }
-    ensures fault { IsErrOf result ReadFail.Fault → Rose (S.faults source.old) (S.faults source.new) }
-    ensures short { IsErrOf result ReadFail.Fault → TookAtMost (S.left source.old) (S.left source.new) limit }
-    ensures memory { IsErrOf result ReadFail.Memory → TookAtMost (S.left source.old) (S.left source.new) (limit + 1) }
-    ensures later { S.faults source.old ≤ S.faults source.new }
+    ensures too_long { IsErrOf result ReadFail.TooLong → GaveCount (S.past source.old) (S.past source.new) (limit + 1) }
+    ensures fault { IsErrOf result ReadFail.Fault → Rose (S.past source.old).faults (S.past source.new).faults }
+    ensures short { IsErrOf result ReadFail.Fault → GaveAtMost (S.past source.old) (S.past source.new) limit }
+    ensures memory { IsErrOf result ReadFail.Memory → GaveAtMost (S.past source.old) (S.past source.new) (limit + 1) }
+    ensures no_fault_long { IsErrOf result ReadFail.TooLong → (S.past source.new).faults ≡ (S.past source.old).faults }
+    ensures no_fault_memory { IsErrOf result ReadFail.Memory → (S.past source.new).faults ≡ (S.past source.old).faults }
+    ensures later { (S.past source.old).faults ≤ (S.past source.new).faults }
 {
     let mut all = Vec::new(alloc);
     let mut buffer = [0u8; PIECE];
@@ -58,13 +59,12 @@ pub fn read_all<S: Source>(alloc: Global, source: &mut S, limit: usize) -> Resul
     Err(ReadFail::TooLong)
 }
 
-/// Appends all bytes, in as many writes as the sink takes them in. `Fault` only where the sink's count of faults rose;
-/// then exactly the first `sent` bytes were appended.
+/// Writes all bytes, in as many writes as the sink takes them in. `Fault` only where a write failed; then exactly the
+/// first `sent` bytes were taken.
 pub fn write_all<K: Sink>(sink: &mut K, bytes: &[u8]) -> Result<(), WriteFail>
-    ensures ok { OnOk result (Appends (K.written sink.old) (K.written sink.new) bytes.now) }
-    ensures sent { IfErr result (λ e. (sent_of e ≤ length bytes.now) × Appends (K.written sink.old) (K.written sink.new) (take (sent_of e) bytes.now)) }
-    ensures fault { OnErr result (Rose (K.faults sink.old) (K.faults sink.new)) }
-    ensures later { K.faults sink.old ≤ K.faults sink.new }
+    ensures ok { OnOk result (K.past sink.new ≡ with_bytes (K.past sink.old) bytes.now) }
+    ensures sent { IfErr result (λ e. sent_of e ≤ length bytes.now) }
+    ensures fault { IfErr result (λ e. K.past sink.new ≡ broken_off (K.past sink.old) (take (sent_of e) bytes.now)) }
 {
     let mut sent = 0;
     while sent < bytes.len() {

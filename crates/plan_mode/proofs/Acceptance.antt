@@ -1,6 +1,5 @@
 -- The entries of planned rows are accepted by `check`.
-use Rattle.std.proofs.Common.{◌≡◌, ◌≤◌, ◌<◌, ℕ, ◌+◌, true, List, [], ◌∷◌, length, arith, refl, sym, subst, leb, inl, inr}
-use Rattle.std.specs.Prelude.{nat_le, ◌&&◌, ⊤}
+use Rattle.std.proofs.Common.{◌≡◌, ◌≤◌, ℕ, ◌+◌, true, List, [], ◌∷◌, length, arith, refl, sym, subst, inl, inr}
 use Rattle.std.specs.List.{All}
 use Rattle.std.proofs.lemmas.List.Elements.{All-nil, All-cons}
 use Rattle.std.proofs.lemmas.Bool.{le-leb}
@@ -9,7 +8,6 @@ use Rattle.plan_geometry.specs.declared.instances.Inst.{Inst}
 use Rattle.weightings.specs.declared.kinds.Weighting.TheVariants as weightings
 use Rattle.weightings.specs.declared.certs.Cert.{Cert}
 use Rattle.weightings.specs.declared.certs.Cert.TheVariants as certs
-use Rattle.order_reader.specs.Orders.{OrderValue}
 use Rattle.order_reader.specs.declared.rows.Row.{Row}
 use Rattle.order_reader.specs.declared.rows.Row.TheVariants as row
 use Rattle.order_reader.specs.declared.faults.RowFault.{RowFault}
@@ -19,7 +17,7 @@ use Rattle.cert_text.specs.Ranges.{InRange}
 use Rattle.plan_entries.specs.declared.entries.Plan.{Plan}
 use Rattle.plan_entries.specs.declared.entries.Entry.{Entry}
 use Rattle.plan_entries.specs.declared.entries.Entry.TheVariants.{Planned, Refused}
-use Rattle.plan_entries.specs.Ranges.{IsInRange, fault_in_range, numbers_in_range, order_in_range, layers_in_range, stack_in_range}
+use Rattle.plan_entries.specs.Ranges.{IsInRange, fault_in_range, numbers_in_range, order_in_range}
 use Rattle.cert_text.specs.Ranges.{in_range as cert_in_range}
 use Rattle.report_text.specs.Lengths.{IsTableOrTree, HasShortCert as HasShortCertText, HaveShortCerts}
 use Rattle.report_text.specs.Reports.{AreNumberedFrom, AreReported}
@@ -29,7 +27,7 @@ use Rattle.report_checker.specs.declared.verdicts.Verdict.{Verdict}
 use Rattle.report_checker.specs.declared.verdicts.Verdict.TheVariants as verdicts
 use Rattle.report_checker.specs.Verdicts.{IsVerdict}
 use Rattle.layer_planner.specs.Quality.{HasShortCert}
-use Rattle.plan_mode.specs.Entries.{IsPlanOf, IsEntryOf, AreEntriesFrom, AreEntriesOf}
+use Rattle.plan_mode.specs.Entries.{AreEntriesFrom, AreEntriesOf}
 use Rattle.plan_mode.specs.Accepted.{IsAcceptedEntry, AreAccepted}
 use Rattle.plan_mode.proofs.EntryFacts.{as_many}
 

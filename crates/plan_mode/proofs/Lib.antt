@@ -2,3 +2,4 @@ pub mod FirstLayer
 pub mod EntryFacts
 pub mod Acceptance
 pub mod PlainText
+pub mod Ran

@@ -1,5 +1,5 @@
 -- What `check` finds in a report that `plan` wrote.
-use Rattle.std.specs.Prelude.{ℕ, ◌<◌, List, length, All}
+use Rattle.std.specs.Prelude.{◌<◌, List, length, All}
 use Rattle.cert_text.specs.declared.forms.Form.TheVariants.{Two}
 use Rattle.plan_entries.specs.declared.entries.Entry.{Entry}
 use Rattle.plan_entries.specs.declared.entries.Entry.TheVariants.{Planned, Refused}

@@ -1,4 +1,7 @@
+pub mod OrdersFiles
 pub mod Entries
 pub mod Pieces
 pub mod Accepted
+pub mod Reports
 pub mod Runs
+pub mod Laws

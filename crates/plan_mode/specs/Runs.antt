@@ -1,93 +1,34 @@
--- What `plan` did, by the code that it gave. A source or a sink that does not tell its bytes makes no demand here: the
--- facts then speak of some bytes.
-use Rattle.std.specs.Prelude.{ℕ, ◌<◌, ◌≤◌, ◌≡◌, Bool, List, length, Option, Some, None, IsSomeAnd, ⊤}
-use Rattle.std.specs.Io.KnownBytes.{Appends}
-use Rattle.run_parts.specs.Codes.{WasRead}
+-- What a run of `plan` did, between two moments of its source and its sink.
+use Rattle.std.specs.Prelude.{ℕ, ◌+◌, ◌≤◌, ◌≡◌, ◌⊎◌, Bool, true, false, List, ◌++◌, length}
+use Rattle.plan_io.specs.Streams.{Intake, Outlet}
+use Rattle.plan_io.specs.Causes.{Rose}
 use Rattle.run_parts.specs.declared.codes.Code.{Code}
-use Rattle.run_parts.specs.declared.codes.Code.TheVariants as codes
-use Rattle.run_parts.specs.Written.{AppendsPart}
-use Rattle.order_reader.specs.Rows.{rows_of}
-use Rattle.order_reader.specs.declared.rows.Row.{Row}
-use Rattle.plan_entries.specs.declared.entries.Entry.{Entry}
-use Rattle.plan_entries.specs.Entries.{any_refused}
-use Rattle.plan_mode.specs.Entries.{AreEntriesOf, AreFirstEntriesOf}
-use Rattle.plan_mode.specs.Accepted.{AreAccepted}
-use Rattle.plan_mode.specs.Pieces.{IsTextOf, IsPlainReport, IsBegunText, IsBrokenText}
+use Rattle.run_parts.specs.declared.codes.Code.TheVariants.{Done, Findings, Usage, TooLong, NoHeader, TooManyRows, BadReport, ReadFault, WriteFault, Memory}
+use Rattle.plan_mode.specs.OrdersFiles.{most_bytes, HasNoHeader, HasTooManyRows}
+use Rattle.plan_mode.specs.Reports.{Reported, Begun, BrokeOff}
 
--- how many bytes an orders file may have, and how many rows
-abbrev pub most_bytes : ℕ
-most_bytes = 262144
+-- What each code says of the bytes that were read and of those that were written, and of how both streams stand then.
+abbrev pub PlanMeans : Bool → Code → List ℕ → List ℕ → Intake → Intake → Outlet → Outlet → Type 0
+PlanMeans draw Done read wrote from from' to to' = (from'.ended ≡ true) × Reported draw read wrote false
+PlanMeans draw Findings read wrote from from' to to' = (from'.ended ≡ true) × Reported draw read wrote true
+PlanMeans draw Usage read wrote from from' to to' = ⊥
+PlanMeans draw TooLong read wrote from from' to to' = (length read ≡ most_bytes + 1) × (to' ≡ to)
+PlanMeans draw NoHeader read wrote from from' to to' = (from'.ended ≡ true) × HasNoHeader read × (to' ≡ to)
+PlanMeans draw TooManyRows read wrote from from' to to' = (from'.ended ≡ true) × HasTooManyRows read × (to' ≡ to)
+PlanMeans draw BadReport read wrote from from' to to' = ⊥
+PlanMeans draw ReadFault read wrote from from' to to' = (length read ≤ most_bytes) × Rose from.faults from'.faults × (to' ≡ to)
+PlanMeans draw WriteFault read wrote from from' to to' = (from'.ended ≡ true) × Begun draw read wrote × Rose to.faults to'.faults
+PlanMeans draw Memory read wrote from from' to to' =
+    ((to' ≡ to) ⊎ ((from'.ended ≡ true) × BrokeOff draw read wrote)) × (to'.faults ≡ to.faults) × (length read ≤ most_bytes + 1)
 
-abbrev pub most_rows : ℕ
-most_rows = 256
-
--- the source was read to its end, and has these rows under a header, no more than a file may have
-pub record HasRows (left left' : Option (List ℕ)) (rows : List Row) : Type 0 where
-  pub bytes : List ℕ
-  pub read : WasRead most_bytes left left' bytes
-  pub is_rows : rows_of bytes ≡ Some rows
-  pub few_rows : length rows ≤ most_rows
-
--- The source was read to its end, and the whole text of the entries of its rows was written, which are such as `check`
--- accepts; `found` says whether a row was refused.
-pub record Reported (draw : Bool) (left left' written written' : Option (List ℕ)) (found : Bool) : Type 0 where
-  pub rows : List Row
-  pub has_rows : HasRows left left' rows
-  pub entries : List Entry
-  pub are_entries : AreEntriesOf rows entries
-  pub accepted : AreAccepted entries
-  pub text : List ℕ
-  pub is_text : IsTextOf draw entries text
-  pub plain : IsPlainReport draw entries text
-  pub wrote : Appends written written' text
-  pub finding : any_refused entries ≡ found
-
--- The source was read to its end, and the first bytes of a text were written that has the entries of the first rows.
-pub record Begun (draw : Bool) (left left' written written' : Option (List ℕ)) : Type 0 where
-  pub rows : List Row
-  pub has_rows : HasRows left left' rows
-  pub entries : List Entry
-  pub are_entries : AreFirstEntriesOf rows entries
-  pub text : List ℕ
-  pub is_text : IsBegunText draw (length rows) entries text
-  pub wrote : AppendsPart written written' text
-
--- The source was read to its end, and the first line and the whole pieces of the entries of the first rows were written.
-pub record BrokeOff (draw : Bool) (left left' written written' : Option (List ℕ)) : Type 0 where
-  pub rows : List Row
-  pub has_rows : HasRows left left' rows
-  pub entries : List Entry
-  pub are_entries : AreFirstEntriesOf rows entries
-  pub text : List ℕ
-  pub is_text : IsBrokenText draw entries text
-  pub wrote : Appends written written' text
-
--- The source was read to its end, and its first record is not a header, or there is none.
-pub record HasNoHeader (left left' : Option (List ℕ)) : Type 0 where
-  pub bytes : List ℕ
-  pub read : WasRead most_bytes left left' bytes
-  pub no_rows : rows_of bytes ≡ None
-
--- The source was read to its end, and more rows follow its header than a file may have.
-pub record HasTooManyRows (left left' : Option (List ℕ)) : Type 0 where
-  pub bytes : List ℕ
-  pub read : WasRead most_bytes left left' bytes
-  pub too_many : IsSomeAnd (rows_of bytes) (λ rows. most_rows < length rows)
-
--- the source tells its bytes, and they are an orders file: no longer than a file may be, with a header and few rows
-abbrev pub IsOrdersFile : Option (List ℕ) → Type 0
-IsOrdersFile None = ⊥
-IsOrdersFile (Some bytes) = (length bytes ≤ most_bytes) × IsSomeAnd (rows_of bytes) (λ rows. length rows ≤ most_rows)
-
--- the codes of a run that found no rows
-abbrev pub IsRowsCode : Code → Type 0
-IsRowsCode codes.Done = ⊥
-IsRowsCode codes.Findings = ⊥
-IsRowsCode codes.Usage = ⊥
-IsRowsCode codes.TooLong = ⊤
-IsRowsCode codes.NoHeader = ⊤
-IsRowsCode codes.TooManyRows = ⊤
-IsRowsCode codes.BadReport = ⊥
-IsRowsCode codes.ReadFault = ⊤
-IsRowsCode codes.WriteFault = ⊥
-IsRowsCode codes.Memory = ⊤
+-- A run of `plan`, with drawings or without, that gave this code.
+pub record PlanRan (draw : Bool) (from : Intake) (to : Outlet) (code : Code) (from' : Intake) (to' : Outlet) : Type 0 where
+  -- all bytes that it read, and all that it wrote
+  pub read : List ℕ
+  pub wrote : List ℕ
+  pub given : from'.given ≡ from.given ++ read
+  pub taken : to'.taken ≡ to.taken ++ wrote
+  -- neither count of faults fell
+  pub source_later : from.faults ≤ from'.faults
+  pub sink_later : to.faults ≤ to'.faults
+  pub means : PlanMeans draw code read wrote from from' to to'

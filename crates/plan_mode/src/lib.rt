@@ -2,8 +2,13 @@
 #![tactic(auto)]
 
 mod entries;
+mod laws;
 mod pieces;
 mod reports;
 
 pub use entries::plan_row;
+pub use laws::plans_are_complete;
 pub use reports::plan;
+
+#[cfg(test)]
+mod tests;

@@ -1,16 +1,16 @@
 // Reading the rows, and writing a report piece by piece.
-ghost use Rattle.std.specs.Prelude.{◌≡◌, ◌≤◌, ◌⊎◌, ◌+◌, ◌++◌, ◌||◌, false, true, List, ℕ, length, IfOk, IfErr, OnOk, OnErr, IsErrOf};
-ghost use Rattle.std.specs.Io.KnownBytes.{Appends};
+ghost use Rattle.std.specs.Prelude.{◌≡◌, ◌≢◌, ◌≤◌, ◌⊎◌, ◌||◌, List, ℕ, length, IfOk, IfErr, IsErrOf};
 ghost use Rattle.plan_io.specs.Causes.{Rose};
-ghost use Rattle.plan_io.specs.Bytes.{TookAtMost, TookCount};
-ghost use Rattle.run_parts.specs.Codes.{WritesNothing, IsDoneOrMemory};
-ghost use Rattle.run_parts.specs.Written.{AppendsPart};
+ghost use Rattle.plan_io.specs.Streams.{at_end};
+ghost use Rattle.run_parts.specs.Codes.{WritesNothing};
+ghost use Rattle.run_parts.specs.Written.{Wrote, WrotePart};
 ghost use Rattle.plan_entries.specs.Entries.{is_refused, any_refused};
 ghost use Rattle.plan_entries.specs.declared.entries.Entry.{Entry};
+ghost use Rattle.plan_mode.specs.OrdersFiles.{HasRows, FoundNoRows};
 ghost use Rattle.plan_mode.specs.Entries.{IsEntryOf, AreEntriesOf, AreFirstEntriesOf};
 ghost use Rattle.plan_mode.specs.Accepted.{AreAccepted};
 ghost use Rattle.plan_mode.specs.Pieces.{IsPieceOf, ArePieces, joined, IsTextOf, IsPlainReport, IsBegunText, IsBrokenText};
-ghost use Rattle.plan_mode.specs.Runs.{most_bytes, HasRows, HasNoHeader, HasTooManyRows, Reported, Begun, BrokeOff, IsOrdersFile, IsRowsCode};
+ghost use Rattle.plan_mode.specs.Runs.{PlanRan};
 
 use crate::entries::plan_row;
 use crate::pieces::{done, head, piece};
@@ -25,31 +25,10 @@ const MOST_BYTES: usize = 262144;
 /// Reads an orders file, and writes the report of its rows: the first line, then one whole piece after another, then the
 /// last line. Where `draw` is set each planned entry is followed by its drawing.
 pub fn plan<S: Source, K: Sink>(alloc: Global, draw: bool, source: &mut S, sink: &mut K) -> Code
-    ensures done { result ≡ Code.Done
-        → Reported draw (S.left source.old) (S.left source.new) (K.written sink.old) (K.written sink.new) false }
-    ensures findings { result ≡ Code.Findings
-        → Reported draw (S.left source.old) (S.left source.new) (K.written sink.old) (K.written sink.new) true }
-    ensures too_long { result ≡ Code.TooLong
-        → TookCount (S.left source.old) (S.left source.new) (most_bytes + 1) }
-    ensures no_header { result ≡ Code.NoHeader
-        → HasNoHeader (S.left source.old) (S.left source.new) }
-    ensures too_many { result ≡ Code.TooManyRows
-        → HasTooManyRows (S.left source.old) (S.left source.new) }
-    ensures read_fault { result ≡ Code.ReadFault → Rose (S.faults source.old) (S.faults source.new) }
-    ensures read_part { result ≡ Code.ReadFault
-        → TookAtMost (S.left source.old) (S.left source.new) most_bytes }
-    ensures write_fault { result ≡ Code.WriteFault → Rose (K.faults sink.old) (K.faults sink.new) }
-    ensures write_part { result ≡ Code.WriteFault
-        → Begun draw (S.left source.old) (S.left source.new) (K.written sink.old) (K.written sink.new) }
-    ensures memory { result ≡ Code.Memory → (sink.new ≡ sink.old)
-        ⊎ BrokeOff draw (S.left source.old) (S.left source.new) (K.written sink.old) (K.written sink.new) }
-    ensures other { (result ≡ Code.Usage) ⊎ (result ≡ Code.BadReport) → ⊥ }
+    ensures ran { PlanRan draw (S.past source.old) (K.past sink.old) result (S.past source.new) (K.past sink.new) }
     ensures nothing { WritesNothing result → sink.new ≡ sink.old }
-    ensures complete { IsOrdersFile (S.left source.old)
-        → ¬ Rose (S.faults source.old) (S.faults source.new) → ¬ Rose (K.faults sink.old) (K.faults sink.new)
-        → IsDoneOrMemory result }
-    ensures source_later { S.faults source.old ≤ S.faults source.new }
-    ensures sink_later { K.faults sink.old ≤ K.faults sink.new }
+    // A sink that took nothing was not called, unless a write failed.
+    ensures untouched { result ≢ Code.WriteFault → K.past sink.new ≡ K.past sink.old → sink.new ≡ sink.old }
 {
     let rows = match read_rows(alloc, source) {
         Ok(rows) => rows,
@@ -65,18 +44,9 @@ pub fn plan<S: Source, K: Sink>(alloc: Global, draw: bool, source: &mut S, sink:
 
 // The rows of an orders file that is read to its end, or the code of the run where it has none.
 fn read_rows<S: Source>(alloc: Global, source: &mut S) -> Result<Vec<Row>, Code>
-    ensures rows { IfOk result (λ rows. HasRows (S.left source.old) (S.left source.new) rows.items) }
-    ensures too_long { IsErrOf result Code.TooLong
-        → TookCount (S.left source.old) (S.left source.new) (most_bytes + 1) }
-    ensures no_header { IsErrOf result Code.NoHeader
-        → HasNoHeader (S.left source.old) (S.left source.new) }
-    ensures too_many { IsErrOf result Code.TooManyRows
-        → HasTooManyRows (S.left source.old) (S.left source.new) }
-    ensures read_fault { IsErrOf result Code.ReadFault → Rose (S.faults source.old) (S.faults source.new) }
-    ensures read_part { IsErrOf result Code.ReadFault
-        → TookAtMost (S.left source.old) (S.left source.new) most_bytes }
-    ensures other { IfErr result (λ code. IsRowsCode code) }
-    ensures later { S.faults source.old ≤ S.faults source.new }
+    ensures rows { IfOk result (λ rows. (read : List ℕ) × (S.past source.new ≡ at_end (S.past source.old) read)
+        × HasRows read rows.items) }
+    ensures no_rows { IfErr result (λ code. FoundNoRows (S.past source.old) code (S.past source.new)) }
 {
     let bytes = read_input(alloc, source, MOST_BYTES)?;
     match read_orders(alloc, &bytes) {
@@ -96,14 +66,14 @@ fn write_report<K: Sink>(
 ) -> Result<bool, WriteStop>
     requires { length rows.now ≤ 256 }
     ensures ok { IfOk result (λ found. (es : List Entry) × (text : List ℕ) × AreEntriesOf rows.now es × AreAccepted es × (any_refused es ≡ found)
-        × IsTextOf draw es text × IsPlainReport draw es text × Appends (K.written sink.old) (K.written sink.new) text) }
+        × IsTextOf draw es text × IsPlainReport draw es text × Wrote (K.past sink.old) (K.past sink.new) text) }
     ensures part { IsErrOf result WriteStop.Fault → (es : List Entry) × (text : List ℕ) × AreFirstEntriesOf rows.now es
-        × IsBegunText draw (length rows.now) es text × AppendsPart (K.written sink.old) (K.written sink.new) text }
-    ensures rose { IsErrOf result WriteStop.Fault → Rose (K.faults sink.old) (K.faults sink.new) }
+        × IsBegunText draw (length rows.now) es text × WrotePart (K.past sink.old) (K.past sink.new) text }
+    ensures rose { IsErrOf result WriteStop.Fault → Rose (K.past sink.old).faults (K.past sink.new).faults }
     ensures memory { IsErrOf result WriteStop.Memory → (sink.new ≡ sink.old)
         ⊎ ((es : List Entry) × (text : List ℕ) × AreFirstEntriesOf rows.now es
-        × IsBrokenText draw es text × Appends (K.written sink.old) (K.written sink.new) text) }
-    ensures later { K.faults sink.old ≤ K.faults sink.new }
+        × IsBrokenText draw es text × Wrote (K.past sink.old) (K.past sink.new) text) }
+    ensures later { (K.past sink.old).faults ≤ (K.past sink.new).faults }
 {
     let Ok(first) = head(alloc, draw) else {
         return Err(WriteStop::Memory);
@@ -126,13 +96,13 @@ fn write_entries<K: Sink>(
 ) -> Result<bool, WriteStop>
     requires { length rows.now ≤ 256 }
     ensures ok { IfOk result (λ found. (es : List Entry) × (ts : List (List ℕ)) × AreEntriesOf rows.now es × (any_refused es ≡ found)
-        × (length es ≡ length rows.now) × ArePieces draw es ts × Appends (K.written sink.old) (K.written sink.new) (joined ts)) }
+        × (length es ≡ length rows.now) × ArePieces draw es ts × Wrote (K.past sink.old) (K.past sink.new) (joined ts)) }
     ensures part { IsErrOf result WriteStop.Fault → (es : List Entry) × (ts : List (List ℕ)) × AreFirstEntriesOf rows.now es
-        × ArePieces draw es ts × AppendsPart (K.written sink.old) (K.written sink.new) (joined ts) }
-    ensures rose { IsErrOf result WriteStop.Fault → Rose (K.faults sink.old) (K.faults sink.new) }
+        × ArePieces draw es ts × WrotePart (K.past sink.old) (K.past sink.new) (joined ts) }
+    ensures rose { IsErrOf result WriteStop.Fault → Rose (K.past sink.old).faults (K.past sink.new).faults }
     ensures memory { IsErrOf result WriteStop.Memory → (es : List Entry) × (ts : List (List ℕ)) × AreFirstEntriesOf rows.now es
-        × ArePieces draw es ts × Appends (K.written sink.old) (K.written sink.new) (joined ts) }
-    ensures later { K.faults sink.old ≤ K.faults sink.new }
+        × ArePieces draw es ts × Wrote (K.past sink.old) (K.past sink.new) (joined ts) }
+    ensures later { (K.past sink.old).faults ≤ (K.past sink.new).faults }
 {
     let mut found = false;
     let mut number = 1;
@@ -161,12 +131,12 @@ fn write_entry<K: Sink>(
     requires first { 1 ≤ number }
     requires last { number ≤ 256 }
     ensures ok { IfOk result (λ refused. (e : Entry) × (t : List ℕ) × IsEntryOf number row.now e × (is_refused e ≡ refused)
-        × IsPieceOf draw e t × Appends (K.written sink.old) (K.written sink.new) t) }
+        × IsPieceOf draw e t × Wrote (K.past sink.old) (K.past sink.new) t) }
     ensures part { IsErrOf result WriteStop.Fault → (e : Entry) × (t : List ℕ) × IsEntryOf number row.now e
-        × IsPieceOf draw e t × AppendsPart (K.written sink.old) (K.written sink.new) t }
-    ensures rose { IsErrOf result WriteStop.Fault → Rose (K.faults sink.old) (K.faults sink.new) }
+        × IsPieceOf draw e t × WrotePart (K.past sink.old) (K.past sink.new) t }
+    ensures rose { IsErrOf result WriteStop.Fault → Rose (K.past sink.old).faults (K.past sink.new).faults }
     ensures memory { IsErrOf result WriteStop.Memory → sink.new ≡ sink.old }
-    ensures later { K.faults sink.old ≤ K.faults sink.new }
+    ensures later { (K.past sink.old).faults ≤ (K.past sink.new).faults }
 {
     let Ok(entry) = plan_row(alloc, number, row) else {
         return Err(WriteStop::Memory);

@@ -1,11 +1,17 @@
--- What was written of a text, where the sink tells its bytes.
-use Rattle.std.specs.Prelude.{ℕ, ◌≡◌, List, ◌++◌, Option}
-use Rattle.std.specs.Io.KnownBytes.{Appends}
+-- What was written of a text.
+use Rattle.std.specs.Prelude.{ℕ, ◌≡◌, List, ◌++◌}
+use Rattle.plan_io.specs.Streams.{Outlet, with_bytes}
+
+-- the whole text was written
+abbrev pub Wrote : Outlet → Outlet → List ℕ → Type 0
+Wrote old new text = new ≡ with_bytes old text
 
 -- these are the first bytes of a text
 abbrev pub IsPrefixOf : List ℕ → List ℕ → Type 0
 IsPrefixOf text front = (rest : List ℕ) × (text ≡ front ++ rest)
 
 -- some first bytes of the text were written
-abbrev pub AppendsPart : Option (List ℕ) → Option (List ℕ) → List ℕ → Type 0
-AppendsPart old new text = (sent : List ℕ) × IsPrefixOf text sent × Appends old new sent
+pub record WrotePart (old new : Outlet) (text : List ℕ) : Type 0 where
+  pub sent : List ℕ
+  pub front : IsPrefixOf text sent
+  pub wrote : new.taken ≡ old.taken ++ sent

@@ -1,10 +1,9 @@
 // Reading an input whole, and writing a text that stands whole.
-ghost use Rattle.std.specs.Prelude.{◌≡◌, ◌≤◌, ◌+◌, IfOk, IfErr, OnOk, OnErr, IsErrOf};
-ghost use Rattle.std.specs.Io.KnownBytes.{Appends};
+ghost use Rattle.std.specs.Prelude.{◌≡◌, ◌≤◌, ◌+◌, length, IfOk, IfErr, OnOk, OnErr, IsErrOf};
 ghost use Rattle.plan_io.specs.Causes.{Rose};
-ghost use Rattle.plan_io.specs.Bytes.{TookAtMost, TookCount};
-ghost use Rattle.run_parts.specs.Codes.{WasRead, IsReadingCode};
-ghost use Rattle.run_parts.specs.Written.{AppendsPart};
+ghost use Rattle.plan_io.specs.Streams.{at_end, with_bytes, GaveCount, GaveAtMost};
+ghost use Rattle.run_parts.specs.Codes.{IsReadingCode};
+ghost use Rattle.run_parts.specs.Written.{WrotePart};
 
 use crate::codes::Code;
 use plan_io::{ReadFail, Sink, Source, read_all, write_all};
@@ -23,14 +22,16 @@ pub enum WriteStop {
 /// it has none.
 pub fn read_input<S: Source>(alloc: Global, source: &mut S, most: usize) -> Result<Vec<u8>, Code>
     requires { most ≤ 268435456 }
-    ensures read { IfOk result (λ bytes. WasRead most (S.left source.old) (S.left source.new) bytes.items) }
-    ensures too_long { IsErrOf result Code.TooLong
-        → TookCount (S.left source.old) (S.left source.new) (most + 1) }
-    ensures read_fault { IsErrOf result Code.ReadFault → Rose (S.faults source.old) (S.faults source.new) }
-    ensures read_part { IsErrOf result Code.ReadFault
-        → TookAtMost (S.left source.old) (S.left source.new) most }
+    ensures read { IfOk result (λ bytes. S.past source.new ≡ at_end (S.past source.old) bytes.items) }
+    ensures few { IfOk result (λ bytes. length bytes.items ≤ most) }
+    ensures too_long { IsErrOf result Code.TooLong → GaveCount (S.past source.old) (S.past source.new) (most + 1) }
+    ensures read_fault { IsErrOf result Code.ReadFault → Rose (S.past source.old).faults (S.past source.new).faults }
+    ensures read_part { IsErrOf result Code.ReadFault → GaveAtMost (S.past source.old) (S.past source.new) most }
+    ensures memory { IsErrOf result Code.Memory → GaveAtMost (S.past source.old) (S.past source.new) (most + 1) }
+    ensures no_fault_long { IsErrOf result Code.TooLong → (S.past source.new).faults ≡ (S.past source.old).faults }
+    ensures no_fault_memory { IsErrOf result Code.Memory → (S.past source.new).faults ≡ (S.past source.old).faults }
     ensures other { IfErr result (λ code. IsReadingCode code) }
-    ensures later { S.faults source.old ≤ S.faults source.new }
+    ensures later { (S.past source.old).faults ≤ (S.past source.new).faults }
 {
     match read_all(alloc, source, most) {
         Ok(bytes) => Ok(bytes),
@@ -42,11 +43,11 @@ pub fn read_input<S: Source>(alloc: Global, source: &mut S, most: usize) -> Resu
 
 /// Writes a text that stands whole in memory.
 pub fn send<K: Sink>(sink: &mut K, text: &[u8]) -> Result<(), WriteStop>
-    ensures ok { OnOk result (Appends (K.written sink.old) (K.written sink.new) text.now) }
-    ensures part { OnErr result (AppendsPart (K.written sink.old) (K.written sink.new) text.now) }
-    ensures rose { OnErr result (Rose (K.faults sink.old) (K.faults sink.new)) }
+    ensures ok { OnOk result (K.past sink.new ≡ with_bytes (K.past sink.old) text.now) }
+    ensures part { OnErr result (WrotePart (K.past sink.old) (K.past sink.new) text.now) }
+    ensures fault { IsErrOf result WriteStop.Fault → Rose (K.past sink.old).faults (K.past sink.new).faults }
     ensures only { IsErrOf result WriteStop.Memory → ⊥ }
-    ensures later { K.faults sink.old ≤ K.faults sink.new }
+    ensures later { (K.past sink.old).faults ≤ (K.past sink.new).faults }
 {
     match write_all(sink, text) {
         Ok(()) => Ok(()),

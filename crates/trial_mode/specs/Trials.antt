@@ -1,10 +1,6 @@
--- What a trial does: the made orders of a number are planned and judged, and what comes of them is counted.
-use Rattle.std.specs.Prelude.{ℕ, ◌+◌, ◌*◌, ◌≤◌, ◌≡◌, ⊤, Bool, true, false, List, [], ◌∷◌, length, Option}
+-- What comes of a trial: the made orders of a number are planned and judged, and what comes of them is counted.
+use Rattle.std.specs.Prelude.{ℕ, ◌+◌, ◌*◌, ◌≤◌, ◌≡◌, ⊤, Bool, true, false, List, [], ◌∷◌, length}
 use Rattle.std.specs.List.{count_by, sum_by}
-use Rattle.std.specs.Io.KnownBytes.{Appends}
-use Rattle.run_parts.specs.Written.{AppendsPart}
-use Rattle.run_parts.specs.declared.codes.Code.{Code}
-use Rattle.run_parts.specs.declared.codes.Code.TheVariants as codes
 use Rattle.order_reader.specs.declared.rows.Row.{Row}
 use Rattle.stack_builder.specs.declared.lists.StackAnswer.{StackAnswer}
 use Rattle.stack_builder.specs.declared.lists.StackAnswer.TheVariants.{Stack, Unmet}
@@ -17,7 +13,6 @@ use Rattle.report_checker.specs.declared.verdicts.Verdict.TheVariants as verdict
 use Rattle.report_checker.specs.Verdicts.{IsVerdict}
 use Rattle.made_orders.specs.declared.summaries.Summary.{Summary}
 use Rattle.made_orders.specs.Made.{made_rows_of}
-use Rattle.made_orders.specs.Summaries.{summary_text}
 use Rattle.plan_mode.specs.Entries.{IsEntryOf}
 
 -- an entry, and a verdict on it
@@ -92,28 +87,3 @@ pub record IsTrialOf (number : ℕ) (tried : List Tried) : Type 0 where
   pub rows : length tried ≡ 16
   pub planned : count_by (λ t. is_planned t.0) tried ≡ 16
   pub yes : count_by (λ t. is_yes t.1) tried ≡ 16
-
--- the summary of a trial was written
-pub record Summed (number : ℕ) (written written' : Option (List ℕ)) : Type 0 where
-  pub tried : List Tried
-  pub is_trial : IsTrialOf number tried
-  pub wrote : Appends written written' (summary_text (summary_of number tried))
-
--- the first bytes of it were written
-pub record SummedInPart (number : ℕ) (written written' : Option (List ℕ)) : Type 0 where
-  pub tried : List Tried
-  pub is_trial : IsTrialOf number tried
-  pub wrote : AppendsPart written written' (summary_text (summary_of number tried))
-
--- the codes of a trial
-abbrev pub IsTrialCode : Code → Type 0
-IsTrialCode codes.Done = ⊤
-IsTrialCode codes.Findings = ⊥
-IsTrialCode codes.Usage = ⊥
-IsTrialCode codes.TooLong = ⊥
-IsTrialCode codes.NoHeader = ⊥
-IsTrialCode codes.TooManyRows = ⊥
-IsTrialCode codes.BadReport = ⊥
-IsTrialCode codes.ReadFault = ⊥
-IsTrialCode codes.WriteFault = ⊤
-IsTrialCode codes.Memory = ⊤

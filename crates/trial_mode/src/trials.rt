@@ -1,12 +1,12 @@
 // A trial, from the made orders to the summary.
 ghost use Rattle.std.specs.Prelude.{◌≡◌, ◌≤◌, ◌+◌, ◌*◌, ◌++◌, ◌∷◌, [], List, ℕ, length, IfOk, All};
-ghost use Rattle.plan_io.specs.Causes.{Rose};
-ghost use Rattle.run_parts.specs.Codes.{IsQuietOrMemory};
+ghost use Rattle.run_parts.specs.Codes.{WritesNothing};
 ghost use Rattle.report_checker.specs.Verdicts.{IsVerdict};
 ghost use Rattle.made_orders.specs.Made.{IsAccepted, made_rows_of};
 ghost use Rattle.made_orders.specs.Summaries.{summary_text};
 ghost use Rattle.plan_mode.specs.Entries.{IsEntryOf};
-ghost use Rattle.trial_mode.specs.Trials.{Tried, AreTriedFrom, cases_of as cases_of_entry, summary_of, IsCounted, IsTrialOf, IsTrialCode, Summed, SummedInPart};
+ghost use Rattle.trial_mode.specs.Trials.{Tried, AreTriedFrom, cases_of as cases_of_entry, summary_of, IsCounted, IsTrialOf};
+ghost use Rattle.trial_mode.specs.Runs.{TrialRan};
 
 use crate::tallies::{cases_of, is_optimal, is_planned, is_stacked, is_yes, one_if};
 use made_orders::{Summary, made_rows, put_summary};
@@ -22,13 +22,9 @@ use std::alloc::Global;
 /// Plans and judges the sixteen made orders of a number, and writes the summary, which stands whole before its first byte
 /// is written. Nothing is read.
 pub fn trial<K: Sink>(alloc: Global, number: u32, sink: &mut K) -> Code
-    ensures done { result ≡ Code.Done → Summed number (K.written sink.old) (K.written sink.new) }
-    ensures write_fault { result ≡ Code.WriteFault → Rose (K.faults sink.old) (K.faults sink.new) }
-    ensures write_part { result ≡ Code.WriteFault → SummedInPart number (K.written sink.old) (K.written sink.new) }
-    ensures memory { result ≡ Code.Memory → sink.new ≡ sink.old }
-    ensures only { IsTrialCode result }
-    ensures complete { ¬ Rose (K.faults sink.old) (K.faults sink.new) → IsQuietOrMemory result }
-    ensures later { K.faults sink.old ≤ K.faults sink.new }
+    ensures ran { TrialRan number (K.past sink.old) result (K.past sink.new) }
+    ensures nothing { WritesNothing result → sink.new ≡ sink.old }
+    ensures untouched { result ≡ Code.Memory → sink.new ≡ sink.old }
 {
     let Ok(text) = trial_text(alloc, number) else {
         return Code::Memory;

@@ -16,4 +16,6 @@ mod plans;
 #[cfg(test)]
 mod runs;
 #[cfg(test)]
+mod streams;
+#[cfg(test)]
 mod workers;

@@ -3,7 +3,7 @@ use block_tables::uniform_of;
 use block_tree::BlockTree;
 use five_block::{five_closure, is_five_size, level_one};
 use g4_patterns::{four_closure, is_four_size};
-use l_patterns::{EllAnswer, ell_search, is_search_size};
+use l_patterns::{EllAnswer, ell_search, ell_search_within, is_search_size};
 use layout_map::normalise;
 use plan_geometry::{Inst, Way, area_bound};
 use raster_points::Points;
@@ -39,6 +39,29 @@ fn by_ell_regions(alloc: Global, inst: Inst) -> Result<EllAnswer, Fail> {
         return Err("too many places".into());
     }
     Ok(ell_search(alloc, inst, &px, &py)?)
+}
+
+// The best pattern of L-regions that a search of at most so many regions finds.
+fn within(alloc: Global, inst: Inst, limit: u32) -> Result<EllAnswer, Fail> {
+    let px = Points::of(alloc, inst.l_side, inst.long, inst.short)?;
+    let py = Points::of(alloc, inst.w_side, inst.long, inst.short)?;
+    if limit > 300_000 || !is_search_size(&px, &py) {
+        return Err("too many places".into());
+    }
+    Ok(ell_search_within(alloc, inst, &px, &py, limit)?)
+}
+
+// With no region the search gives up; with as many as the memo holds, or more, it is complete.
+#[test]
+fn limits_of_the_search(rt: HostRuntime) -> Result<(), Fail> {
+    let inst = Inst::new(5, 5, 3, 2).ok_or("sides")?;
+    assert!(rt; !within(rt.alloc(), inst, 0)?.complete);
+    for limit in [262_144, 300_000] {
+        let answer = within(rt.alloc(), inst, limit)?;
+        assert!(rt; answer.complete);
+        assert_eq!(rt; answer.tree.held(), 4);
+    }
+    Ok(())
 }
 
 // The lines of a report in which the layer of a pattern stands as the first, each case moved to its normal place.

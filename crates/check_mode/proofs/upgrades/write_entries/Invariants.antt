@@ -1,7 +1,7 @@
 use Rattle.std.proofs.Common.{◌≡◌, ◌≤◌, ◌++◌, List, length}
 use Rattle.std.specs.Prelude.{All}
-use Rattle.std.specs.Io.KnownBytes.{Appends}
 use Rattle.cert_text.specs.declared.forms.Form.TheVariants.{Two}
+use Rattle.run_parts.specs.Written.{Wrote}
 use Rattle.plan_entries.specs.Ranges.{IsInRange}
 use Rattle.plan_entries.specs.declared.entries.Entry.{Entry}
 use Rattle.report_text.specs.Reports.{entries_text}
@@ -10,8 +10,8 @@ use Rattle.check_mode.proofs.upgrades.write_entries.Given as goal
 abbrev pub invariant-loop-alloc : goal.invariant-loop-alloc
 invariant-loop-alloc g l = record {
   wrote : (before : List Entry) × (l.initial.entries.entries ≡ before ++ l.entries.entries)
-      × Appends (g.K.Sink.written l.initial.sink) (g.K.Sink.written l.sink) (entries_text Two before);
-  later : g.K.Sink.faults l.initial.sink ≤ g.K.Sink.faults l.sink;
+      × Wrote (g.K.Sink.past l.initial.sink) (g.K.Sink.past l.sink) (entries_text Two before);
+  later : (g.K.Sink.past l.initial.sink).faults ≤ (g.K.Sink.past l.sink).faults;
   ranges : All (IsInRange Two) l.entries.entries;
 }
 

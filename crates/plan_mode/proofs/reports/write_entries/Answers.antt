@@ -1,10 +1,9 @@
 use Rattle.std.proofs.Common.{◌≡◌, ◌≤◌, ◌∙◌, ℕ, ◌+◌, ◌∷◌, ◌++◌, [], List, take, length, ap, arith, rules, refl, sym, subst}
 use Rattle.std.specs.Prelude.{IsErrOf}
-use Rattle.std.proofs.KnownBytes.{Appends-nil, Appends-trans}
 use Rattle.std.proofs.lemmas.List.{length-append, take_more, length-take-le}
 use Rattle.order_reader.specs.declared.rows.Row.{Row}
 use Rattle.run_parts.specs.declared.parts.WriteStop.TheVariants.{Fault}
-use Rattle.run_parts.proofs.Pieces.{part-after}
+use Rattle.run_parts.proofs.Pieces.{wrote-nil, wrote-trans, part-then}
 use Rattle.plan_entries.specs.declared.entries.Entry.{Entry}
 use Rattle.plan_mode.specs.Entries.{AreEntriesFrom, IsEntryOf}
 use Rattle.plan_mode.specs.Pieces.{joined}
@@ -20,7 +19,7 @@ one_more rows i number row es e inside taken at each of_row =
     rw taken (entries-more 1 (take i rows) es row e each here)
 
 pub loop-row-init : goal.loop-row-init
-loop-row-init g c = (refl, omega arith, ([], [], tt, refl, refl, tt, Appends-nil _))
+loop-row-init g c = (refl, omega arith, ([], [], tt, refl, refl, tt, wrote-nil _))
 
 pub write_entry-requires-clause-first : goal.write_entry-requires-clause-first
 write_entry-requires-clause-first g c =
@@ -47,7 +46,7 @@ returns-in_err-refused-clause-part g c = λ is.
       ts ++ t ∷ [],
       first-of rows (i + 1) (es ++ e ∷ []) (omega (arith, len, length-append es (e ∷ []))) (one_more rows i c.loop-row.number row es e (omega arith) taken at each of_row),
       pieces-more c.args.draw es ts e t pieces piece,
-      rw (joined-more ts t) (part-after _ _ _ (joined ts) t text part),
+      rw (joined-more ts t) (part-then _ _ _ (joined ts) t text part),
     )
 
 pub loop-row-preserved : goal.loop-row-preserved
@@ -69,6 +68,6 @@ loop-row-preserved g c =
         any-more es e ∙ rw (found, refused) (sym c.either-found.ensures),
         omega (arith, len, length-append es (e ∷ [])),
         pieces-more c.args.draw es ts e t pieces piece,
-        rw (joined-more ts t) (Appends-trans _ _ _ (joined ts) t text more),
+        rw (joined-more ts t) (wrote-trans _ _ _ (joined ts) t text more),
       ),
     )
