@@ -3,3 +3,4 @@ pub mod CellSteps
 pub mod SpanSteps
 pub mod FewSteps
 pub mod AreaSteps
+pub mod SweepSteps

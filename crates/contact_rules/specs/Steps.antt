@@ -1,4 +1,5 @@
-use Rattle.std.specs.Prelude.{◌≡◌, ℕ, ◌+◌, ◌-◌, ◌<◌, ◌≤◌, min, max, ◌⊎◌, Bool, ◌&&◌, nat_lt, List, map, filter, All}
+use Rattle.std.specs.Prelude.{◌≡◌, ℕ, ◌+◌, ◌-◌, ◌<◌, ◌≤◌, min, max, ◌⊎◌, Bool, ◌&&◌, nat_lt, List, length, map, filter, All}
+use Rattle.std.specs.List.{AllWithin}
 use Rattle.plan_geometry.specs.declared.spots.Axis.{Axis}
 use Rattle.plan_geometry.specs.declared.spots.Spot.{Spot}
 use Rattle.plan_geometry.specs.declared.instances.Inst.{Inst}
@@ -50,3 +51,15 @@ pub record IsLongest (a : Axis) (I : Inst) (gap : ℕ) (lower upper : List Spot)
   pub grows : most ≤ n
   pub bound : SomeCase (λ s. line ≤ start a s) lower upper → (row m : ℕ) → IsRun a I gap lower upper line row m → m ≤ n
   pub reached : (n ≡ most) ⊎ (SomeCase (λ s. line ≤ start a s) lower upper × ((row : ℕ) × IsRun a I gap lower upper line row n))
+
+-- the cases before the place end at or before the row, were each as long as `reach`, and those from it on after it
+pub record IsFirstNear (spots : List Spot) (reach row place : ℕ) : Type 0 where
+  pub within : place ≤ length spots
+  pub before : AllWithin (λ s. s.y + reach ≤ row) spots 0 place
+  pub from : AllWithin (λ s. row < s.y + reach) spots place (length spots)
+
+-- the cases before the place begin before the row, and those from it on at or after it
+pub record IsFirstBehind (spots : List Spot) (row place : ℕ) : Type 0 where
+  pub within : place ≤ length spots
+  pub before : AllWithin (λ s. s.y < row) spots 0 place
+  pub from : AllWithin (λ s. row ≤ s.y) spots place (length spots)

@@ -117,3 +117,34 @@ fn gap(rt: HostRuntime) -> Result<(), Fail> {
     assert_eq!(rt; supports(upper, &lower, 1), 1);
     Ok(())
 }
+
+// Three cases of 2 by 2 behind one another.
+#[test]
+fn rows_between(rt: HostRuntime) -> Result<(), Fail> {
+    let inst = Inst {
+        l_side: 2,
+        w_side: 6,
+        long: 2,
+        short: 2,
+    };
+    let mut spots = Vec::new(rt.alloc());
+    spots.push(at(0, 0, Way::Lying))?;
+    spots.push(at(0, 2, Way::Lying))?;
+    spots.push(at(0, 4, Way::Lying))?;
+    let lower = Layer::new(inst, spots).ok_or("no layout")?;
+    let between = Spot {
+        x: 0,
+        y: 3,
+        way: Way::Lying,
+    };
+    assert_eq!(rt; contact(between, &lower, 0), 4);
+    assert_eq!(rt; supports(between, &lower, 0), 2);
+    let last = Spot {
+        x: 0,
+        y: 4,
+        way: Way::Lying,
+    };
+    assert_eq!(rt; contact(last, &lower, 0), 4);
+    assert_eq!(rt; supports(last, &lower, 0), 1);
+    Ok(())
+}

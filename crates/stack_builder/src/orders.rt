@@ -1,10 +1,12 @@
 ghost use Rattle.std.specs.Prelude.{◌≡◌, ◌<◌, ◌≤◌, length, All, IfOk};
 ghost use Rattle.order_reader.specs.Instances.{IsGivenOf};
+ghost use Rattle.contact_rules.specs.Rules.{IsLawfulRule};
 ghost use Rattle.stack_builder.specs.Answers.{IsListed};
-ghost use Rattle.stack_builder.specs.Orders.{allowed_of, IsStackOf, IsOnlyStackOf};
+ghost use Rattle.stack_builder.specs.Orders.{allowed_of, rules_of, IsStackOf, IsOnlyStackOf};
 
 use crate::answers::{asked, stack_under};
 use crate::lists::StackAnswer;
+use contact_rules::Rule;
 use layer_symmetry::Move;
 use order_reader::{Field, Order};
 use plan_geometry::Layer;
@@ -25,6 +27,19 @@ pub fn layers_allowed(order: &Order, count: u32) -> u32
     u64::from(by_height).min(by_weight) as u32
 }
 
+/// The rules that the order asks for, in the order contact, support, cut.
+pub fn order_rules(alloc: Global, order: &Order) -> Result<Vec<Rule>, Memory>
+    ensures rules { IfOk result (λ r. r.items ≡ rules_of order.now) }
+    ensures lawful { IfOk result (λ r. All IsLawfulRule r.items) }
+{
+    asked(
+        alloc,
+        order.number(Field::Contact),
+        order.number(Field::Support),
+        order.number(Field::Cut),
+    )
+}
+
 /// The lexicographically least list of n numbers of variants, from 1, in which each two neighbours, the
 /// lower first, meet every rule that the order asks for. Where there is none, those rules in the order
 /// contact, support, cut, each marked where no two variants, a variant with itself included, meet it by
@@ -42,12 +57,7 @@ pub fn stack(
     ensures only { IfOk result (λ a. IsOnlyStackOf order.now variants.now n a) }
     ensures short { n ≤ 1 → 0 < length variants.now → IfOk result IsListed }
 {
-    let rules = asked(
-        alloc,
-        order.number(Field::Contact),
-        order.number(Field::Support),
-        order.number(Field::Cut),
-    )?;
+    let rules = order_rules(alloc, order)?;
     let answer = stack_under(
         alloc,
         order.inst(),

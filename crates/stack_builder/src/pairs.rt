@@ -2,7 +2,7 @@ ghost use Rattle.std.specs.Prelude.{◌≡◌, ℕ, ◌+◌, ◌*◌, ◌<◌, �
 ghost use Rattle.contact_rules.specs.Real.{IsGapOf};
 ghost use Rattle.contact_rules.specs.Rules.{Meets, IsLawfulRule};
 ghost use Rattle.stack_builder.specs.Goes.{GoesIn};
-ghost use Rattle.stack_builder.specs.Pairs.{AreOf, spots_of, GoTogether, IsAlone};
+ghost use Rattle.stack_builder.specs.Pairs.{AreOf, spots_of, GoTogether, Interlocks, IsAlone};
 
 use contact_rules::{Rule, meets};
 use layer_symmetry::Move;
@@ -76,6 +76,23 @@ pub fn table(
         table.push(goes)?;
     }
     Ok(table)
+}
+
+/// Whether some of the variants, the first itself among them, lies upon the first so that the two meet every
+/// rule. The variants are of the instance, each number of which contains the gap. Of all the variants of a
+/// layer two or more can be stacked exactly where this is so.
+pub fn interlocks(inst: Inst, gap: u32, rules: &[Rule], variants: &[(Move, Layer)]) -> bool
+    requires gap { IsGapOf inst gap }
+    requires rules { All IsLawfulRule rules.now }
+    requires variants { AreOf inst variants.now }
+    ensures { IsTrue result ↔ Interlocks inst gap rules.now variants.now }
+{
+    for k in 0..variants.len() {
+        if pair_goes(inst, gap, rules, variants, 0, k) {
+            return true;
+        }
+    }
+    false
 }
 
 /// Whether no two of the variants meet the rule.

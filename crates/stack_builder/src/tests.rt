@@ -1,7 +1,10 @@
 ghost use Rattle.std.specs.Prelude.{◌≡◌, ◌≤◌, length, All, IfOk};
 ghost use Rattle.order_reader.specs.Instances.{IsGivenOf};
 
-use crate::{StackAnswer, UnmetRule, UnmetRules, VariantNumbers, layers_allowed, stack};
+use crate::{
+    StackAnswer, UnmetRule, UnmetRules, VariantNumbers, interlocks, layers_allowed, order_rules,
+    stack,
+};
 use contact_rules::Rule;
 use layer_symmetry::{Move, variants};
 use order_reader::Order;
@@ -130,6 +133,76 @@ fn gap(rt: HostRuntime) -> Result<(), Fail> {
     })?;
     marks.push(UnmetRule {
         rule: Rule::Cut(99),
+        alone: true,
+    })?;
+    let expected = StackAnswer::Unmet(UnmetRules::new(marks));
+    let answer = stack(rt.alloc(), &asked, &listed, 2)?;
+    assert!(rt; answer.is_same(&expected));
+    Ok(())
+}
+
+// Whether some variant upon the first meets the rules of the order.
+fn first_interlocks(alloc: Global, asked: &Order, spots: Vec<Spot>) -> Result<bool, Fail> {
+    let listed = variants_of(alloc, asked, spots)?;
+    let rules = order_rules(alloc, asked)?;
+    Ok(interlocks(
+        asked.inst(),
+        asked.gap(),
+        rules.as_slice(),
+        listed.as_slice(),
+    ))
+}
+
+#[test]
+fn pinwheels_interlock(rt: HostRuntime) -> Result<(), Fail> {
+    let met = order(rt.alloc(), [5, 5, 3, 2, 1, 10, 2, 1000, 100, 1, 20, 0])?;
+    assert!(rt; first_interlocks(rt.alloc(), &met, pinwheel(rt.alloc())?)?);
+    let unmet = order(rt.alloc(), [5, 5, 3, 2, 1, 10, 2, 1000, 100, 1, 19, 0])?;
+    assert!(rt; !first_interlocks(rt.alloc(), &unmet, pinwheel(rt.alloc())?)?);
+    Ok(())
+}
+
+#[test]
+fn rules_of_orders(rt: HostRuntime) -> Result<(), Fail> {
+    let all = order(rt.alloc(), [5, 5, 3, 2, 1, 10, 2, 1000, 70, 1, 60, 0])?;
+    let rules = order_rules(rt.alloc(), &all)?;
+    assert!(rt; rules.as_slice() == [Rule::Contact(70), Rule::Support, Rule::Cut(60)].as_slice());
+    let none = order(rt.alloc(), [5, 5, 3, 2, 1, 10, 2, 1000, 0, 0, 100, 0])?;
+    assert!(rt; order_rules(rt.alloc(), &none)?.is_empty());
+    Ok(())
+}
+
+// A layer of the order as if it were its only variant.
+fn lone_variant(alloc: Global, order: &Order, spots: Vec<Spot>) -> Result<Vec<(Move, Layer)>, Fail>
+    ensures given { IfOk result (λ v. All (λ p. IsGivenOf order.now p.1.inst) v.items) }
+    ensures few { IfOk result (λ v. length v.items ≤ 8) }
+{
+    let Some(layer) = Layer::new(order.inst(), spots) else {
+        return Err("no layout".into());
+    };
+    let mut listed = Vec::new(alloc);
+    if listed.push((Move::Same, layer)).is_err() {
+        return Err("no memory".into());
+    }
+    Ok(listed)
+}
+
+// The pinwheel listed without its mirror image: not all the variants of a layer.
+#[test]
+fn part_of_the_variants(rt: HostRuntime) -> Result<(), Fail> {
+    let asked = order(rt.alloc(), [5, 5, 3, 2, 1, 10, 2, 1000, 100, 1, 20, 0])?;
+    let listed = lone_variant(rt.alloc(), &asked, pinwheel(rt.alloc())?)?;
+    let mut marks = Vec::new(rt.alloc());
+    marks.push(UnmetRule {
+        rule: Rule::Contact(100),
+        alone: false,
+    })?;
+    marks.push(UnmetRule {
+        rule: Rule::Support,
+        alone: true,
+    })?;
+    marks.push(UnmetRule {
+        rule: Rule::Cut(20),
         alone: true,
     })?;
     let expected = StackAnswer::Unmet(UnmetRules::new(marks));

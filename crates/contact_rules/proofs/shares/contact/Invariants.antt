@@ -1,9 +1,10 @@
-use Rattle.std.proofs.Common.{◌≡◌, ◌*◌, ◌≤◌, take}
+use Rattle.std.proofs.Common.{◌≡◌, ◌*◌, ◌≤◌, take, length}
 use Rattle.contact_rules.specs.Shared.{total_shared}
 use Rattle.contact_rules.proofs.shares.contact.Given as goal
 
-abbrev pub invariant-loop-t : goal.invariant-loop-t
-invariant-loop-t l = record {
-  value : l.total ≡ total_shared l.lower.inst l.gap (take l.t-index l.lower.spots) l.upper;
-  small : l.total ≤ l.t-index * (l.inst.long * l.inst.short);
+abbrev pub invariant-loop-k : goal.invariant-loop-k
+invariant-loop-k l = record {
+  value : l.total ≡ total_shared l.lower.inst l.gap (take l.k l.lower.spots) l.upper;
+  within : l.k ≤ length l.lower.spots;
+  small : l.total ≤ l.k * (l.inst.long * l.inst.short);
 }

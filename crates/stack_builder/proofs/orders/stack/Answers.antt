@@ -1,8 +1,8 @@
 use Rattle.std.proofs.Common.{◌≡◌, ◌∙◌, sym, subst}
 use Rattle.contact_rules.specs.Real.{IsGapOf}
-use Rattle.order_reader.specs.Orders.{gap_of, contact_of, support_of, cut_of}
+use Rattle.order_reader.specs.Orders.{gap_of}
 use Rattle.stack_builder.specs.Orders.{rules_of}
-use Rattle.stack_builder.proofs.OrderSteps.{given-gap, given-variants, stack-of-answer, asked-same, answer-read}
+use Rattle.stack_builder.proofs.OrderSteps.{given-gap, given-variants, stack-of-answer, answer-read}
 use Rattle.stack_builder.proofs.orders.stack.Goals as goal
 
 pub stack_under-requires-clause-gap : goal.stack_under-requires-clause-gap
@@ -16,7 +16,7 @@ stack_under-requires-clause-variants c =
 pub returns-clause-stack : goal.returns-clause-stack
 returns-clause-stack c =
     let o = c.args.order.now in
-    let e : c.as_slice.result.now ≡ rules_of o = c.as_slice.ensures.value ∙ (c.in_ok-rules.ensures.rules ∙ asked-same c.number.result c.number-2.result c.number-3.result (contact_of o) (support_of o) (cut_of o) c.number.ensures.number c.number-2.ensures.number c.number-3.ensures.number) in
+    let e : c.as_slice.result.now ≡ rules_of o = c.as_slice.ensures.value ∙ c.in_ok-rules.ensures.rules in
     record {
       inst = c.inst.result;
       given = c.inst.ensures.given;
@@ -26,6 +26,6 @@ returns-clause-stack c =
 pub returns-clause-only : goal.returns-clause-only
 returns-clause-only c = λ other h.
     let o = c.args.order.now in
-    let e : c.as_slice.result.now ≡ rules_of o = c.as_slice.ensures.value ∙ (c.in_ok-rules.ensures.rules ∙ asked-same c.number.result c.number-2.result c.number-3.result (contact_of o) (support_of o) (cut_of o) c.number.ensures.number c.number-2.ensures.number c.number-3.ensures.number) in
+    let e : c.as_slice.result.now ≡ rules_of o = c.as_slice.ensures.value ∙ c.in_ok-rules.ensures.rules in
     let right = stack-of-answer o c.inst.result c.args.variants.now c.args.n other c.inst.ensures.given h in
     c.in_ok-answer.ensures.only other (answer-read c.inst.result (gap_of o) c.gap.result (rules_of o) c.as_slice.result.now c.args.variants.now c.args.n other (sym c.gap.ensures.gap) (sym e) right)
