@@ -1,0 +1,9 @@
+pub mod Chosen
+pub mod EntryLines
+pub mod RivalLines
+pub mod TailLines
+pub mod TailBytes
+pub mod EndedTails
+pub mod TailTexts
+pub mod Pieces
+pub mod Lengths
