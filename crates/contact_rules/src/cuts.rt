@@ -114,19 +114,25 @@ fn longest_with(
 
 // The greatest run along an axis. A line at which no case ends has no longer run than one before it at
 // which a case ends.
-fn run_along(axis: Axis, inst: Inst, gap: u32, lower: &[Spot], upper: &[Spot]) -> u32
+fn run_along(
+    axis: Axis,
+    inst: Inst,
+    gap: u32,
+    lower: &[Spot],
+    upper: &[Spot],
+    spans: &mut ArrayVec<Span, 8000>,
+) -> u32
     requires gap { IsGapOf inst gap }
     requires lower_layout { IsLayout inst lower.now }
     requires upper_layout { IsLayout inst upper.now }
     ensures greatest { IsGreatestRun axis inst gap lower.now upper.now result }
     ensures few { result ≤ 4000 }
 {
-    let mut spans = ArrayVec::new();
     let mut most = 0;
     let mut next = next_line(axis, inst, gap, lower, upper, 1);
     for line in 1..real_side_along(axis, inst, gap) {
         if line == next {
-            most = longest_with(axis, inst, gap, lower, upper, line, most, &mut spans);
+            most = longest_with(axis, inst, gap, lower, upper, line, most, spans);
             next = next_line(axis, inst, gap, lower, upper, line + 1);
         }
     }
@@ -154,8 +160,9 @@ pub fn straight_run(lower: &Layer, upper: &Layer, gap: u32) -> Runs
     let inst = lower.inst();
     let below = lower.spots();
     let above = upper.spots();
+    let mut spans = ArrayVec::new();
     Runs {
-        rows: run_along(Axis::X, inst, gap, below, above),
-        columns: run_along(Axis::Y, inst, gap, below, above),
+        rows: run_along(Axis::X, inst, gap, below, above, &mut spans),
+        columns: run_along(Axis::Y, inst, gap, below, above, &mut spans),
     }
 }
