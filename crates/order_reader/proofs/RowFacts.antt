@@ -43,8 +43,14 @@ pub header-more : (fields : Fields) (columns : List Field) (at : ℕ) (d : Field
     ≡ (bytes_eq f (column_name (get_or columns at d)) && pointwise bytes_eq (drop (at + 1 + 1) fields) (map column_name (drop (at + 1) columns)))
 header-more fields columns at d f lt there = rw (drop-field fields (at + 1) f there, drop-cons columns at d, add-one at) refl
 
+-- one more field is compared with what it is to be
+pub fields-more : {X : Type 0} (text : X → List ℕ) (fields : Fields) (wanted : List X) (at : ℕ) (d : X) (f : List ℕ) → at < length wanted → field_at fields at ≡ Some f
+    → pointwise bytes_eq (drop at fields) (map text (drop at wanted))
+    ≡ (bytes_eq f (text (get_or wanted at d)) && pointwise bytes_eq (drop (at + 1) fields) (map text (drop (at + 1) wanted)))
+fields-more text fields wanted at d f lt there = rw (drop-field fields at f there, drop-cons wanted at d, add-one at) refl
+
 -- the elements so far and one more, each with its number
-enumerate-more : {X : Type 0} (n : ℕ) (xs : List X) (x : X) → enumerate_from n (xs ++ x ∷ []) ≡ enumerate_from n xs ++ (n + length xs, x) ∷ []
+pub enumerate-more : {X : Type 0} (n : ℕ) (xs : List X) (x : X) → enumerate_from n (xs ++ x ∷ []) ≡ enumerate_from n xs ++ (n + length xs, x) ∷ []
 enumerate-more n [] x = ap (λ (k : ℕ). (k, x) ∷ []) (omega arith)
 enumerate-more n (y ∷ ys) x =
     let e : n + 1 + length ys ≡ n + length (y ∷ ys) = omega arith in

@@ -53,7 +53,7 @@ static FIELDS: [Field; 12] = [
 
 /// The number columns of the header with the gap.
 #[tactic(auto, unfolding(crate::specs::Columns::all_columns))]
-pub(crate) fn all_fields() -> &'static [Field]
+pub fn all_fields() -> &'static [Field]
     ensures all { result.now ≡ all_columns }
     ensures twelve { length result.now ≡ 12 }
 {

@@ -10,10 +10,11 @@ mod records;
 mod rows;
 
 pub use faults::{OrderFail, RowFault};
-pub use fields::Field;
+pub use fields::{Field, all_fields};
 pub use orders::Order;
 pub use plan_memory::Memory;
-pub use rows::{MOST_ROWS, ReadStop, Row, read_orders};
+pub use records::{has_fields, read_records};
+pub use rows::{MOST_ROWS, ReadStop, Row, read_orders, read_row};
 
 #[cfg(test)]
 mod tests;

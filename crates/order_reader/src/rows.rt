@@ -25,9 +25,9 @@ pub enum Row {
 /// Why a file's rows were not read.
 #[derive(Clone, Copy, PartialEq, Eq, Debug)]
 pub enum ReadStop {
-    /// There is no record, or the first is neither header.
+    /// There is no record, or the first is no header of such a file.
     NoHeader,
-    /// More than 256 rows follow the header.
+    /// More rows follow the header than such a file has.
     TooManyRows,
     /// Memory was refused.
     Memory,
@@ -36,7 +36,7 @@ pub enum ReadStop {
 /// The most rows of a file.
 pub const MOST_ROWS: usize = 256;
 
-/// All rows of a file, in order. Records are those of the csv crate's reader, with the comma between fields
+/// All rows of a file, in order, of which there are at most 256. Records are those of the csv crate's reader, with the comma between fields
 /// and records of any length; the bytes EF BB BF at the front are dropped. Both headers are read, with the
 /// column `gap` at the end and without it.
 pub fn read_orders(alloc: Global, bytes: &[u8]) -> Result<Vec<Row>, ReadStop>
@@ -111,9 +111,9 @@ fn read_rows(alloc: Global, columns: &[Field], records: &[ByteRecord]) -> Result
     Ok(rows)
 }
 
-// What a record is as the row of this number.
+/// What a record is as the row of this number, under these number columns.
 #[tactic(auto, unfolding(crate::specs::Rows::row_of))]
-fn read_row(
+pub fn read_row(
     alloc: Global,
     columns: &[Field],
     number: u32,

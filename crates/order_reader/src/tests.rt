@@ -1,4 +1,7 @@
-use crate::{Field, Order, OrderFail, ReadStop, Row, RowFault, read_orders};
+use crate::{
+    Field, Order, OrderFail, ReadStop, Row, RowFault, all_fields, has_fields, read_orders,
+    read_records, read_row,
+};
 use std::alloc::Global;
 use std::test::Fail;
 
@@ -156,6 +159,29 @@ fn names(rt: HostRuntime) -> Result<(), Fail> {
     assert_eq!(rt; text.as_str(), "max_height gap");
     assert_eq!(rt; Field::named(b"support"), Some(Field::Support));
     assert_eq!(rt; Field::named(b"id"), None);
+    Ok(())
+}
+
+// Other files of records are read by the same parts.
+#[test]
+fn records_and_rows(rt: HostRuntime) -> Result<(), Fail> {
+    let records = read_records(rt.alloc(), b"\xef\xbb\xbfid,x\nA,1\n")?;
+    let [header, record] = records.as_slice() else {
+        return Err("not two records".into());
+    };
+    assert!(rt; has_fields(header, &[b"id".as_slice(), b"x".as_slice()]));
+    assert!(rt; !has_fields(header, &[b"id".as_slice()]));
+    assert!(rt; !has_fields(record, &[b"id".as_slice(), b"x".as_slice()]));
+    let row = read_row(rt.alloc(), all_fields(), 7, record)?;
+    assert!(rt;
+        matches!(
+            row,
+            Row::Refused {
+                number: 7,
+                fault: RowFault::FieldCount
+            }
+        )
+    );
     Ok(())
 }
 
