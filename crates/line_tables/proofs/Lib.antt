@@ -1,0 +1,5 @@
+pub mod LineSteps
+pub mod CellSteps
+pub mod BlockSteps
+pub mod SumSteps
+pub mod LeastSteps
