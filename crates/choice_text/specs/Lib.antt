@@ -1,0 +1,5 @@
+pub mod Text
+pub mod Words
+pub mod Lines
+pub mod Cursors
+pub mod Answers
