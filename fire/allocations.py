@@ -4,8 +4,8 @@
 The program asks the C library for memory (malloc, realloc); fire/refuse.c stands before it and answers null at a chosen
 call, or at each call from a chosen one on. For each of the runs below and each such call (of one long run, for some two
 hundred of them) the run has to give the full answer, the same bytes and the same status as where nothing is refused, or to
-end with status 9, and then what was written has to be one of: nothing; of `plan` and `upgrade` the first line and whole
-entries behind it; of `check` whole verdict lines; of `trial` nothing. Needs `cc` and a program that is linked to the C library at run time. The last line is of totals; the status
+end with status 9, and then what was written has to be one of: nothing; of `plan`, `upgrade` and `choose` the first line and
+whole entries behind it; of `check` and `check-choice` whole verdict lines; of `trial` nothing. Needs `cc` and a program that is linked to the C library at run time. The last line is of totals; the status
 is not 0 where anything else was seen.
 """
 
@@ -22,18 +22,20 @@ from program import TWO_LAYERS, run
 
 
 def pieces_of(text):
-    """A report's first line and its entries, each with its drawing; the last line is left out."""
-    starts = [found.start() for found in re.finditer(rb"(?m)^(entry|done) \d+$", text)]
+    """The first line of a report or a choice, and its entries, each with its drawing; what stands behind them is left out."""
+    starts = [found.start() for found in re.finditer(rb"(?m)^((entry|done) \d+|chosen .*)$", text)]
+    if text.startswith(b"pallet-choice"):
+        starts.pop()
     return [text[: starts[0]]] + [text[begin:end] for begin, end in zip(starts, starts[1:])]
 
 
 def broken_off(words, full):
     """The texts that may stand after refused memory, where the whole one is `full`."""
-    if words[0] in ("plan", "upgrade") and full:
+    if words[0] in ("plan", "upgrade", "choose") and full:
         pieces = pieces_of(full)
         return {b""} | {b"".join(pieces[:count]) for count in range(1, len(pieces) + 1)}
-    if words[0] == "check" and full:
-        lines = full.splitlines(keepends=True)[:-1]
+    if words[0] in ("check", "check-choice") and full:
+        lines = full.splitlines(keepends=True)[: -1 if words[0] == "check" else -2]
         return {b"".join(lines[:count]) for count in range(len(lines) + 1)}
     return {b""}
 
@@ -100,6 +102,7 @@ def walks():
     dozen = program.example("dozen-orders.csv")
     mixed_report = run(["plan"], mixed).written
     dozen_report = run(["plan"], dozen).written
+    choice, dozen_choice = run(["choose"], TWO_LAYERS).written, run(["choose"], dozen).written
     return [
         Walk(["plan"], TWO_LAYERS, "plan, " + two),
         Walk(["plan", "--draw"], TWO_LAYERS, "plan --draw, " + two),
@@ -121,6 +124,11 @@ def walks():
         Walk(["plan"], dozen, "plan, dozen-orders.csv", 1),
         Walk(["check"], dozen_report, "check, dozen-orders.csv"),
         Walk(["check", "--workers", "4"], dozen_report, "check --workers 4, dozen-orders.csv", threads=True),
+        Walk(["choose"], TWO_LAYERS, "choose, " + two),
+        Walk(["check-choice"], choice, "check-choice, " + two),
+        Walk(["choose"], dozen, "choose, dozen-orders.csv", 1),
+        Walk(["check-choice"], dozen_choice, "check-choice, dozen-orders.csv"),
+        Walk(["check-choice"], choice[:-3], "check-choice, no choice", 6),
         Walk(["plan"], rows_of("9,8,5,2", "12,11,7,2", "14,13,4,3"), "plan, strips and tables"),
         Walk(["plan"], rows_of("43,26,7,3"), "plan, L-regions, some of the calls", most=200),
     ]

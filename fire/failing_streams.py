@@ -41,9 +41,9 @@ def closed(words, redirection, path):
 
 def modes():
     """Each mode with an input, by a path that bash can open."""
-    report = run(["plan"], TWO_LAYERS).written
+    report, choice = run(["plan"], TWO_LAYERS).written, run(["choose"], TWO_LAYERS).written
     return [(["plan"], TWO_LAYERS), (["plan", "--draw"], TWO_LAYERS), (["check"], report), (["check", "--workers", "3"], report),
-            (["upgrade"], report), (["trial", "--number", "5"], b"")]
+            (["upgrade"], report), (["choose"], TWO_LAYERS), (["check-choice"], choice), (["trial", "--number", "5"], b"")]
 
 
 def try_mode(words, data, folder):

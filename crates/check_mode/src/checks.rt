@@ -200,14 +200,15 @@ fn write_lines<K: Sink>(
     Ok(found)
 }
 
-fn is_no(verdict: Verdict) -> bool
+/// Whether the verdict is no.
+pub fn is_no(verdict: Verdict) -> bool
     ensures { result ≡ is_no_verdict verdict }
 {
     matches!(verdict, Verdict::No { .. })
 }
 
-// Writes the line of an entry's verdict.
-fn write_line<K: Sink>(
+/// Writes the line of an entry's verdict, which stands whole in memory before it is written.
+pub fn write_line<K: Sink>(
     alloc: Global,
     entry: &Entry,
     verdict: Verdict,

@@ -8,9 +8,10 @@ mod reading;
 mod upgrades;
 mod writing;
 
-pub use checks::check;
+pub use checks::{check, is_no, write_line};
 pub use laws::{checks_are_complete, upgrades_are_complete};
-pub use upgrades::upgrade;
+pub use reading::{bad_report, plain};
+pub use upgrades::{upgrade, write_entry};
 
 #[cfg(test)]
 mod tests;

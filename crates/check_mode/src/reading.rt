@@ -36,16 +36,16 @@ pub(crate) fn entries_of(alloc: Global, bytes: &[u8]) -> Result<Entries<'_>, Ans
     }
 }
 
-// The answer of a run that found no line at fault.
-pub(crate) fn plain(code: Code) -> Answer
+/// The answer of a run that found no line at fault.
+pub fn plain(code: Code) -> Answer
     ensures code { result.code ≡ code }
     ensures line { result.line ≡ 0 }
 {
     Answer { code, line: 0 }
 }
 
-// The answer of a run whose input is no report from this line on.
-fn bad_report(line: u32) -> Answer
+/// The answer of a run whose input is no report, or no other text that it reads, from this line on.
+pub fn bad_report(line: u32) -> Answer
     ensures code { result.code ≡ Code.BadReport }
     ensures line { result.line ≡ line }
 {

@@ -131,8 +131,8 @@ fn next_entry(alloc: Global, entries: &mut Entries<'_>) -> Result<Option<Entry>,
     }
 }
 
-// Writes the text of an entry.
-fn write_entry<K: Sink>(alloc: Global, entry: &Entry, sink: &mut K) -> Result<(), WriteStop>
+/// Writes the text of an entry in the form of today, which stands whole in memory before it is written.
+pub fn write_entry<K: Sink>(alloc: Global, entry: &Entry, sink: &mut K) -> Result<(), WriteStop>
     requires { IsInRange Two entry.now }
     ensures ok { OnOk result (Wrote (K.past sink.old) (K.past sink.new) (entry_text Two entry.now)) }
     ensures part { IsErrOf result WriteStop.Fault

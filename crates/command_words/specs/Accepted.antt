@@ -1,15 +1,19 @@
 -- Which words the program accepts, and what they ask for.
-use Rattle.std.specs.Prelude.{◌≤◌, ◌&&◌, not, is_some, List, [], ◌∷◌, Option, Some, None, codes, option_map, option_and_then, unwrap_or, if◌then◌else◌, ⊤}
+use Rattle.std.specs.Prelude.{◌≤◌, Bool, ◌&&◌, not, is_some, List, [], ◌∷◌, Option, Some, None, codes, option_map, option_and_then, unwrap_or, if◌then◌else◌, ⊤}
 use Rattle.std.specs.Str.{bytes_eq}
 use Rattle.clap.specs.Words.{Row, Text, Kinds, first_of, fault_of, matches_of}
 use Rattle.command_words.specs.Command.{pallet_command}
 use Rattle.command_words.specs.Given.{options_given}
 use Rattle.command_words.specs.declared.modes.Mode.{Mode}
-use Rattle.command_words.specs.declared.modes.Mode.TheVariants.{Plan, Check, Upgrade, Trial}
+use Rattle.command_words.specs.declared.modes.Mode.TheVariants.{Plan, Check, Upgrade, Choose, CheckChoice, Trial}
 use Rattle.command_words.specs.declared.modes.Options.{Options}
 
+-- no option was given
+abbrev pub are_absent : Options → Bool
+are_absent options = not options.draw && not (is_some options.workers) && not (is_some options.number)
+
 -- The mode of a word, where the options stand with it: `--draw` with `plan` alone, `--workers` with `check` alone, and
--- `--number` with `trial`, which needs it, and with nothing else.
+-- `--number` with `trial`, which needs it, and with nothing else. No option stands with the other words.
 unfoldable pub mode_with : Options → Text → Option Mode
 mode_with options word =
     if bytes_eq word (codes "plan")
@@ -17,10 +21,14 @@ mode_with options word =
     else (if bytes_eq word (codes "check")
     then (if not options.draw && not (is_some options.number) then Some (Check (unwrap_or options.workers 1)) else None)
     else (if bytes_eq word (codes "upgrade")
-    then (if not options.draw && not (is_some options.workers) && not (is_some options.number) then Some Upgrade else None)
+    then (if are_absent options then Some Upgrade else None)
+    else (if bytes_eq word (codes "choose")
+    then (if are_absent options then Some Choose else None)
+    else (if bytes_eq word (codes "check-choice")
+    then (if are_absent options then Some CheckChoice else None)
     else (if bytes_eq word (codes "trial")
     then (if not options.draw && not (is_some options.workers) then option_map Trial options.number else None)
-    else None)))
+    else None)))))
 
 -- what the command read of the words asks for
 abbrev pub mode_of_rows : List Row → Option Mode
@@ -40,4 +48,6 @@ abbrev pub IsInRange : Mode → Type 0
 IsInRange (Plan draw) = ⊤
 IsInRange (Check workers) = (1 ≤ workers) × (workers ≤ 16)
 IsInRange Upgrade = ⊤
+IsInRange Choose = ⊤
+IsInRange CheckChoice = ⊤
 IsInRange (Trial number) = (1 ≤ number) × (number ≤ 1000000)

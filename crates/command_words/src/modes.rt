@@ -1,6 +1,6 @@
 // What the program can be asked to do, and which options stand with it.
 ghost use Rattle.std.specs.Prelude.{◌≡◌, ◌≤◌, IfSome, IsNone};
-ghost use Rattle.command_words.specs.Accepted.{mode_with, IsInRange};
+ghost use Rattle.command_words.specs.Accepted.{are_absent as no_options, mode_with, IsInRange};
 
 /// What the program can be asked to do.
 #[derive(Clone, Copy, PartialEq, Eq, Debug)]
@@ -11,6 +11,10 @@ pub enum Mode {
     Check { workers: u32 },
     /// Read a report of either form and write it in the newer one.
     Upgrade,
+    /// Read orders, and write their entries and which of them holds the most cases.
+    Choose,
+    /// Read what `choose` wrote, and write a verdict for each entry and one for the choice.
+    CheckChoice,
     /// Plan and check orders that are made from a number, 1 to 1,000,000.
     Trial { number: u32 },
 }
@@ -23,11 +27,19 @@ pub struct Options {
     pub number: Option<u32>,
 }
 
+// Whether no option was given.
+fn are_absent(options: Options) -> bool
+    ensures { result ≡ no_options options }
+{
+    !options.draw && options.workers.is_none() && options.number.is_none()
+}
+
 /// The mode of a word, where the options stand with it.
 #[tactic(auto, unfolding(crate::specs::Accepted::mode_with))]
 pub fn mode_for(word: &str, options: Options) -> Option<Mode>
     ensures { result ≡ mode_with options word.now }
 {
+    let absent = are_absent(options);
     let Options {
         workers,
         draw,
@@ -38,7 +50,9 @@ pub fn mode_for(word: &str, options: Options) -> Option<Mode>
         "check" if !draw && number.is_none() => Some(Mode::Check {
             workers: workers.unwrap_or(1),
         }),
-        "upgrade" if !draw && workers.is_none() && number.is_none() => Some(Mode::Upgrade),
+        "upgrade" if absent => Some(Mode::Upgrade),
+        "choose" if absent => Some(Mode::Choose),
+        "check-choice" if absent => Some(Mode::CheckChoice),
         "trial" if !draw && workers.is_none() => number.map(|number| Mode::Trial { number }),
         _ => None,
     }

@@ -6,7 +6,7 @@ use Rattle.plan_io.specs.Streams.{Intake, Outlet}
 use Rattle.run_parts.specs.declared.codes.Code.{Code}
 use Rattle.run_parts.specs.declared.codes.Code.TheVariants.{Done, Findings, Usage, TooLong, NoHeader, TooManyRows, BadReport, ReadFault, WriteFault, Memory}
 use Rattle.command_words.specs.declared.modes.Mode.{Mode}
-use Rattle.command_words.specs.declared.modes.Mode.TheVariants.{Plan, Check, Upgrade, Trial}
+use Rattle.command_words.specs.declared.modes.Mode.TheVariants.{Plan, Check, Upgrade, Choose, CheckChoice, Trial}
 use Rattle.pallet_top.specs.Runs.{Ran, NothingIsWritten, FaultsHaveTheirCause, LinesAreOfBadReports}
 
 -- a run that is refused memory before it touches its streams
@@ -14,6 +14,8 @@ pub memory_ran : (mode : Mode) (from : Intake) (to : Outlet) → Ran mode from t
 memory_ran (Plan draw) from to = (record { read = []; wrote = []; given = sym (append-nil from.given); taken = sym (append-nil to.taken); source_later = omega arith; sink_later = omega arith; means = (inl refl, refl, omega arith) }, refl)
 memory_ran (Check workers) from to = record { read = []; wrote = []; given = sym (append-nil from.given); taken = sym (append-nil to.taken); source_later = omega arith; sink_later = omega arith; means = (inl refl, refl, refl, omega arith, refl) }
 memory_ran Upgrade from to = record { read = []; wrote = []; given = sym (append-nil from.given); taken = sym (append-nil to.taken); source_later = omega arith; sink_later = omega arith; means = (inl refl, refl, refl, omega arith, refl) }
+memory_ran Choose from to = (record { read = []; wrote = []; given = sym (append-nil from.given); taken = sym (append-nil to.taken); source_later = omega arith; sink_later = omega arith; means = (inl refl, refl, omega arith) }, refl)
+memory_ran CheckChoice from to = record { read = []; wrote = []; given = sym (append-nil from.given); taken = sym (append-nil to.taken); source_later = omega arith; sink_later = omega arith; means = (inl refl, refl, refl, omega arith, refl) }
 memory_ran (Trial number) from to = (record { wrote = []; taken = sym (append-nil to.taken); sink_later = omega arith; means = refl }, (refl, refl))
 
 pub nothing : NothingIsWritten
@@ -47,6 +49,26 @@ nothing Upgrade from to BadReport line from' to' ran w = ran.means.1
 nothing Upgrade from to ReadFault line from' to' ran w = ran.means.2
 nothing Upgrade from to WriteFault line from' to' ran w = absurd w
 nothing Upgrade from to Memory line from' to' ran w = absurd w
+nothing Choose from to Done line from' to' ran w = absurd w
+nothing Choose from to Findings line from' to' ran w = absurd w
+nothing Choose from to Usage line from' to' ran w = absurd ran.0.means
+nothing Choose from to TooLong line from' to' ran w = ran.0.means.1
+nothing Choose from to NoHeader line from' to' ran w = ran.0.means.2
+nothing Choose from to TooManyRows line from' to' ran w = ran.0.means.2
+nothing Choose from to BadReport line from' to' ran w = absurd ran.0.means
+nothing Choose from to ReadFault line from' to' ran w = ran.0.means.2
+nothing Choose from to WriteFault line from' to' ran w = absurd w
+nothing Choose from to Memory line from' to' ran w = absurd w
+nothing CheckChoice from to Done line from' to' ran w = absurd w
+nothing CheckChoice from to Findings line from' to' ran w = absurd w
+nothing CheckChoice from to Usage line from' to' ran w = absurd ran.means
+nothing CheckChoice from to TooLong line from' to' ran w = ran.means.1
+nothing CheckChoice from to NoHeader line from' to' ran w = absurd ran.means
+nothing CheckChoice from to TooManyRows line from' to' ran w = absurd ran.means
+nothing CheckChoice from to BadReport line from' to' ran w = ran.means.1
+nothing CheckChoice from to ReadFault line from' to' ran w = ran.means.2
+nothing CheckChoice from to WriteFault line from' to' ran w = absurd w
+nothing CheckChoice from to Memory line from' to' ran w = absurd w
 nothing (Trial number) from to Done line from' to' ran w = absurd w
 nothing (Trial number) from to Findings line from' to' ran w = absurd w
 nothing (Trial number) from to Usage line from' to' ran w = absurd ran.0.means
@@ -63,24 +85,32 @@ read_cause : (mode : Mode) (from : Intake) (to : Outlet) (line : ℕ) (from' : I
 read_cause (Plan draw) from to line from' to' ran = ran.0.means.1
 read_cause (Check workers) from to line from' to' ran = ran.means.1
 read_cause Upgrade from to line from' to' ran = ran.means.1
+read_cause Choose from to line from' to' ran = ran.0.means.1
+read_cause CheckChoice from to line from' to' ran = ran.means.1
 read_cause (Trial number) from to line from' to' ran = absurd ran.0.means
 
 write_cause : (mode : Mode) (from : Intake) (to : Outlet) (line : ℕ) (from' : Intake) (to' : Outlet) → Ran mode from to WriteFault line from' to' → Rose to.faults to'.faults
 write_cause (Plan draw) from to line from' to' ran = ran.0.means.2
 write_cause (Check workers) from to line from' to' ran = ran.means.2
 write_cause Upgrade from to line from' to' ran = ran.means.2
+write_cause Choose from to line from' to' ran = ran.0.means.2
+write_cause CheckChoice from to line from' to' ran = ran.means.2
 write_cause (Trial number) from to line from' to' ran = ran.0.means.1
 
 source_later : (mode : Mode) (from : Intake) (to : Outlet) (code : Code) (line : ℕ) (from' : Intake) (to' : Outlet) → Ran mode from to code line from' to' → from.faults ≤ from'.faults
 source_later (Plan draw) from to code line from' to' ran = ran.0.source_later
 source_later (Check workers) from to code line from' to' ran = ran.source_later
 source_later Upgrade from to code line from' to' ran = ran.source_later
+source_later Choose from to code line from' to' ran = ran.0.source_later
+source_later CheckChoice from to code line from' to' ran = ran.source_later
 source_later (Trial number) from to code line from' to' ran = rw ran.1.0 (omega arith)
 
 sink_later : (mode : Mode) (from : Intake) (to : Outlet) (code : Code) (line : ℕ) (from' : Intake) (to' : Outlet) → Ran mode from to code line from' to' → to.faults ≤ to'.faults
 sink_later (Plan draw) from to code line from' to' ran = ran.0.sink_later
 sink_later (Check workers) from to code line from' to' ran = ran.sink_later
 sink_later Upgrade from to code line from' to' ran = ran.sink_later
+sink_later Choose from to code line from' to' ran = ran.0.sink_later
+sink_later CheckChoice from to code line from' to' ran = ran.sink_later
 sink_later (Trial number) from to code line from' to' ran = ran.0.sink_later
 
 read_of : (mode : Mode) (from : Intake) (to : Outlet) (code : Code) (line : ℕ) (from' : Intake) (to' : Outlet) → Ran mode from to code line from' to' → code ≡ ReadFault → Rose from.faults from'.faults
@@ -137,4 +167,15 @@ lines Upgrade from to BadReport line from' to' ran other = absurd (other refl)
 lines Upgrade from to ReadFault line from' to' ran other = ran.means.3
 lines Upgrade from to WriteFault line from' to' ran other = ran.means.3
 lines Upgrade from to Memory line from' to' ran other = ran.means.4
+lines Choose from to code line from' to' ran other = ran.1
+lines CheckChoice from to Done line from' to' ran other = ran.means.2
+lines CheckChoice from to Findings line from' to' ran other = ran.means.2
+lines CheckChoice from to Usage line from' to' ran other = absurd ran.means
+lines CheckChoice from to TooLong line from' to' ran other = ran.means.2
+lines CheckChoice from to NoHeader line from' to' ran other = absurd ran.means
+lines CheckChoice from to TooManyRows line from' to' ran other = absurd ran.means
+lines CheckChoice from to BadReport line from' to' ran other = absurd (other refl)
+lines CheckChoice from to ReadFault line from' to' ran other = ran.means.3
+lines CheckChoice from to WriteFault line from' to' ran other = ran.means.3
+lines CheckChoice from to Memory line from' to' ran other = ran.means.4
 lines (Trial number) from to code line from' to' ran other = ran.1.1

@@ -6,13 +6,16 @@ use Rattle.run_parts.specs.Codes.{WritesNothing, IsDoneOrMemory, IsQuietOrMemory
 use Rattle.run_parts.specs.declared.codes.Code.{Code}
 use Rattle.run_parts.specs.declared.codes.Code.TheVariants.{BadReport, ReadFault, WriteFault}
 use Rattle.command_words.specs.declared.modes.Mode.{Mode}
-use Rattle.command_words.specs.declared.modes.Mode.TheVariants.{Plan, Check, Upgrade, Trial}
+use Rattle.command_words.specs.declared.modes.Mode.TheVariants.{Plan, Check, Upgrade, Choose, CheckChoice, Trial}
 use Rattle.order_reader.specs.declared.rows.Row.{Row}
 use Rattle.plan_mode.specs.OrdersFiles.{HasRows}
 use Rattle.plan_mode.specs.Runs.{PlanRan}
 use Rattle.check_mode.specs.Reading.{IsReportFile}
 use Rattle.check_mode.specs.Checks.{CheckRan}
 use Rattle.check_mode.specs.Upgrades.{UpgradeRan}
+use Rattle.choice_mode.specs.Reading.{IsChoiceBytes}
+use Rattle.choice_mode.specs.ChooseRuns.{ChooseRan}
+use Rattle.choice_mode.specs.CheckRuns.{CheckChoiceRan}
 use Rattle.trial_mode.specs.Runs.{TrialRan}
 
 -- What a run of a mode did: from the moment at which it began, by its code and line, to the moment at which it ended.
@@ -20,6 +23,8 @@ abbrev pub Ran : Mode → Intake → Outlet → Code → ℕ → Intake → Outl
 Ran (Plan draw) from to code line from' to' = PlanRan draw from to code from' to' × (line ≡ 0)
 Ran (Check workers) from to code line from' to' = CheckRan from to code line from' to'
 Ran Upgrade from to code line from' to' = UpgradeRan from to code line from' to'
+Ran Choose from to code line from' to' = ChooseRan from to code from' to' × (line ≡ 0)
+Ran CheckChoice from to code line from' to' = CheckChoiceRan from to code line from' to'
 Ran (Trial number) from to code line from' to' = TrialRan number to code to' × ((from' ≡ from) × (line ≡ 0))
 
 -- nothing is written with the codes 2 to 7
@@ -38,7 +43,7 @@ abbrev pub FaultsHaveTheirCause : Type 0
 FaultsHaveTheirCause = (mode : Mode) (from : Intake) (to : Outlet) (code : Code) (line : ℕ) (from' : Intake) (to' : Outlet)
     → Ran mode from to code line from' to' → HasCauses code from from' to to'
 
--- a line is told of a bad report alone
+-- a line is told of a bad report alone, or of what is no choice's text
 abbrev pub LinesAreOfBadReports : Type 0
 LinesAreOfBadReports = (mode : Mode) (from : Intake) (to : Outlet) (code : Code) (line : ℕ) (from' : Intake) (to' : Outlet)
     → Ran mode from to code line from' to' → code ≢ BadReport → line ≡ 0
@@ -52,6 +57,8 @@ abbrev pub IsInputOf : Mode → List ℕ → Type 0
 IsInputOf (Plan draw) read = IsOrdersFile read
 IsInputOf (Check workers) read = IsReportFile read
 IsInputOf Upgrade read = IsReportFile read
+IsInputOf Choose read = IsOrdersFile read
+IsInputOf CheckChoice read = IsChoiceBytes read
 IsInputOf (Trial number) read = ⊤
 
 -- the code is one of a run that lacked nothing but memory
@@ -59,6 +66,8 @@ abbrev pub IsCompleteCode : Mode → Code → Type 0
 IsCompleteCode (Plan draw) code = IsDoneOrMemory code
 IsCompleteCode (Check workers) code = IsDoneOrMemory code
 IsCompleteCode Upgrade code = IsQuietOrMemory code
+IsCompleteCode Choose code = IsDoneOrMemory code
+IsCompleteCode CheckChoice code = IsDoneOrMemory code
 IsCompleteCode (Trial number) code = IsQuietOrMemory code
 
 -- where no fault rose and the bytes that were read are what the mode reads, all was done, or memory was refused

@@ -24,6 +24,8 @@ pub fn runs_are_complete()
     plan_mode::plans_are_complete();
     check_mode::checks_are_complete();
     check_mode::upgrades_are_complete();
+    choice_mode::choices_are_complete();
+    choice_mode::checks_of_choices_are_complete();
     trial_mode::trials_are_complete();
 }
 

@@ -88,6 +88,8 @@ fn run_mode<R: Threads + Sync, G: Gate + Sync, S: Source, K: Sink>(
         Mode::Plan { draw } => plain(plan_mode::plan(alloc, draw, source, sink)),
         Mode::Check { workers } => check_mode::check(rt, alloc, gate, workers, source, sink),
         Mode::Upgrade => check_mode::upgrade(alloc, source, sink),
+        Mode::Choose => plain(choice_mode::choose(alloc, source, sink)),
+        Mode::CheckChoice => choice_mode::check_choice(alloc, source, sink),
         Mode::Trial { number } => plain(trial_mode::trial(alloc, number, sink)),
     }
 }

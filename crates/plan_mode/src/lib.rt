@@ -8,7 +8,7 @@ mod reports;
 
 pub use entries::plan_row;
 pub use laws::plans_are_complete;
-pub use reports::plan;
+pub use reports::{plan, read_rows};
 
 #[cfg(test)]
 mod tests;

@@ -42,8 +42,8 @@ pub fn plan<S: Source, K: Sink>(alloc: Global, draw: bool, source: &mut S, sink:
     }
 }
 
-// The rows of an orders file that is read to its end, or the code of the run where it has none.
-fn read_rows<S: Source>(alloc: Global, source: &mut S) -> Result<Vec<Row>, Code>
+/// The rows of an orders file that is read to its end, at most 256; or the code of the run where it has none.
+pub fn read_rows<S: Source>(alloc: Global, source: &mut S) -> Result<Vec<Row>, Code>
     ensures rows { IfOk result (λ rows. (read : List ℕ) × (S.past source.new ≡ at_end (S.past source.old) read)
         × HasRows read rows.items) }
     ensures no_rows { IfErr result (λ code. FoundNoRows (S.past source.old) code (S.past source.new)) }

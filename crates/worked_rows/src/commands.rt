@@ -34,7 +34,7 @@ fn refused_words(rt: HostRuntime) -> Result<(), Fail> {
 }
 
 // A trial reads nothing, and a second one of the same number writes the same bytes. How many cases the sixteen layers
-// have at most together was found by another program, row by row.
+// have at most together, and that twelve of the orders have a stack, was found by other programs, row by row.
 #[test]
 fn trials(rt: HostRuntime) -> Result<(), Fail> {
     let alloc = rt.alloc();
@@ -53,7 +53,7 @@ fn trials(rt: HostRuntime) -> Result<(), Fail> {
         "trial 1\nrows 16\nplanned 16\ncases 359\noptimal 16\n"
     );
     assert_eq!(rt; end, "yes 16\n");
-    assert!(rt; stacks.parse::<u32>().is_ok());
+    assert_eq!(rt; stacks, "12");
     let again = ran(&rt, alloc, "trial --number 1", b"")?;
     assert!(rt; again.code == Code::Done && again.written.as_slice() == sink.written());
     let other = ran(&rt, alloc, "trial --number 1000000", b"")?;

@@ -39,3 +39,31 @@ fn dozen_orders(rt: HostRuntime) -> Result<(), Fail> {
     assert!(rt; judged.code == Code::Done && judged.written.as_slice() == VERDICTS.as_bytes());
     Ok(())
 }
+
+// The rows of one case on four pallets among the examples.
+const ONE_CASE: &str =
+    ",gap\nEUR,1200,800,330,250,310,14500,1500,1100000,0,0,100,0\nISO,1200,1000,330,250,310,14500,1500,1100000,0,0,100,0\nUS,1016,1219,330,250,310,14500,1500,1100000,0,0,100,0\nSQUARE,1140,1140,330,250,310,14500,1500,1100000,0,0,100,0";
+
+// What the README says of them.
+#[test]
+fn four_pallets(rt: HostRuntime) -> Result<(), Fail> {
+    let alloc = rt.alloc();
+    let chosen = ran(&rt, alloc, "choose", &file(alloc, ONE_CASE)?)?;
+    let Ok(text) = str::from_utf8(&chosen.written) else {
+        return Err("no text".into());
+    };
+    assert!(rt;
+        chosen.code == Code::Done && text.starts_with("pallet-choice 1\nentry 1\nid EUR\n")
+    );
+    assert!(rt; text.ends_with("\nend\nchosen 2 count 14\ndone 4\n"));
+    let counts = ["count 10", "count 14", "count 13"];
+    let seen = counts.map(|line| count_lines(text, line));
+    assert!(rt; seen == [1, 2, 1] && count_lines(text, "status optimal") == 4);
+    let judged = ran(&rt, alloc, "check-choice", &chosen.written)?;
+    assert!(rt; judged.code == Code::Done);
+    assert!(rt;
+        judged.written.as_slice()
+            == b"entry 1 yes\nentry 2 yes\nentry 3 yes\nentry 4 yes\nchoice yes\ndone 4\n".as_slice()
+    );
+    Ok(())
+}

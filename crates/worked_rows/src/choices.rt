@@ -1,0 +1,127 @@
+use crate::runs::{changed, file, ran};
+use pallet_top::Code;
+use std::alloc::Global;
+use std::test::Fail;
+use std::thread::Threads;
+
+/// A choice of two entries: four cases on 5 by 5, and eight on 6 by 6 with a bound of nine, so that the chosen entry is its
+/// own rival.
+const OWN_RIVAL: &str =
+    "pallet-choice 1\nentry 1\nid A\norder 5 5 3 2 1 10 2 1000 100 1 20 0\nreduced 5 5 3 2\ncount 4\nbound 4\nstatus optimal\ncert weighted\nweighting area\ntree .\nlayers 2\nlayer 1 same\n0 0 L\n3 0 S\n0 2 S\n2 3 L\nlayer 2 mirror-x\n0 0 S\n2 0 L\n3 2 S\n0 3 L\nallowed 2\nstack 1 2\nend\nentry 2\nid B\norder 6 6 4 1 1 1 1 1000 0 0 100 0\nreduced 6 6 4 1\ncount 8\nbound 9\nstatus open\ncert weighted\nweighting area\ntree .\nlayers 2\nlayer 1 same\n0 0 L\n4 0 S\n5 0 S\n0 1 L\n0 2 S\n1 2 S\n2 4 L\n2 5 L\nlayer 2 mirror-x\n0 0 S\n1 0 S\n2 0 L\n2 1 L\n4 2 S\n5 2 S\n0 4 L\n0 5 L\nallowed 1\nstack 1\nend\nchosen 2 count 8\nrival 2 bound 9\ndone 2\n";
+
+/// The verdicts of its entries.
+const BOTH: &str = "entry 1 yes\nentry 2 yes\n";
+
+// What `choose` writes of these rows: the entries that `plan` writes, and this behind them.
+fn chooses<R: Threads + Sync>(
+    rt: &R,
+    alloc: Global,
+    rows: &str,
+    tail: &str,
+    verdicts: &str,
+) -> Result<bool, Fail> {
+    let orders = file(alloc, rows)?;
+    let planned = ran(rt, alloc, "plan", &orders)?;
+    let Ok(report) = str::from_utf8(&planned.written) else {
+        return Err("no text".into());
+    };
+    let (_, entries) = report.split_once("pallet-report 2\n").ok_or("no head")?;
+    let (entries, _) = entries.split_once("done ").ok_or("no end")?;
+    let text = format!(in alloc; "pallet-choice 1\n{entries}{tail}")?;
+    let chosen = ran(rt, alloc, "choose", &orders)?;
+    let judged = ran(rt, alloc, "check-choice", &chosen.written)?;
+    Ok(
+        chosen.code == planned.code
+            && chosen.written.as_slice() == text.as_bytes()
+            && judged.code == Code::Done
+            && judged.written.as_slice() == verdicts.as_bytes(),
+    )
+}
+
+#[test]
+fn chosen(rt: HostRuntime) -> Result<(), Fail> {
+    let alloc = rt.alloc();
+    let cases = [
+        // Eight cases of 4 by 1 on 6 by 6 are more than four of 3 by 2 on 5 by 5, and 11 by 4 does not fit on 3 by 10.
+        (
+            "\nA,5,5,3,2,1,10,1,1000,0,0,100\nB,6,6,4,1,1,10,1,1000,0,0,100\nC,3,10,11,4,1,10,1,1000,0,0,100",
+            "chosen 2 count 8\ndone 3\n",
+            "entry 1 yes\nentry 2 yes\nentry 3 refused\nchoice yes\ndone 3\n",
+        ),
+        // Of two equal rows the first is chosen, and none is a rival.
+        (
+            "\nA,5,5,3,2,1,10,1,1000,0,0,100\nA,5,5,3,2,1,10,1,1000,0,0,100",
+            "chosen 1 count 4\ndone 2\n",
+            "entry 1 yes\nentry 2 yes\nchoice yes\ndone 2\n",
+        ),
+        (
+            "\nC,3,10,11,4,1,10,1,1000,0,0,100",
+            "chosen none\ndone 1\n",
+            "entry 1 refused\nchoice yes\ndone 1\n",
+        ),
+        ("", "chosen none\ndone 0\n", "choice yes\ndone 0\n"),
+    ];
+    for (rows, tail, verdicts) in cases {
+        assert!(rt; chooses(&rt, alloc, rows, tail, verdicts)?, "{rows}");
+    }
+    Ok(())
+}
+
+// A choice that names another entry, another count or other rivals is none, and so is one beside a verdict no.
+#[test]
+fn judged(rt: HostRuntime) -> Result<(), Fail> {
+    let alloc = rt.alloc();
+    let cases = [
+        ("chosen 2", "chosen 2", "yes"),
+        ("rival 2 bound 9\n", "", "no"),
+        ("rival 2 bound 9\n", "rival 1 bound 9\n", "no"),
+        ("rival 2 bound 9\n", "rival 2 bound 10\n", "no"),
+        ("chosen 2 count 8", "chosen 1 count 8", "no"),
+        ("chosen 2 count 8", "chosen 2 count 7", "no"),
+        ("chosen 2 count 8", "chosen 3 count 8", "no"),
+        ("chosen 2 count 8", "chosen none", "no"),
+    ];
+    for (part, other, right) in cases {
+        let text = changed(alloc, OWN_RIVAL, part, other)?;
+        let judged = ran(&rt, alloc, "check-choice", &text)?;
+        let wanted = format!(in alloc; "{BOTH}choice {right}\ndone 2\n")?;
+        let code = if right == "yes" {
+            Code::Done
+        } else {
+            Code::Findings
+        };
+        assert!(rt;
+            judged.code == code && judged.written.as_slice() == wanted.as_bytes(),
+            "{other}"
+        );
+    }
+    let text = changed(alloc, OWN_RIVAL, "allowed 2", "allowed 1")?;
+    let judged = ran(&rt, alloc, "check-choice", &text)?;
+    assert!(rt; judged.code == Code::Findings);
+    assert!(rt;
+        judged.written.as_slice()
+            == b"entry 1 no allowed 0\nentry 2 yes\nchoice no\ndone 2\n".as_slice()
+    );
+    Ok(())
+}
+
+// Each choice that ends too early is none, at the line behind its last whole one; and a report is none from its first line.
+#[test]
+fn prefixes(rt: HostRuntime) -> Result<(), Fail> {
+    let alloc = rt.alloc();
+    let mut whole = 1;
+    for (length, byte) in OWN_RIVAL.bytes().enumerate() {
+        let text = OWN_RIVAL.as_bytes().get(..length).ok_or("no prefix")?;
+        let ran = ran(&rt, alloc, "check-choice", text)?;
+        assert!(rt; ran.code == Code::BadReport && ran.line == whole && ran.written.is_empty());
+        if byte == b'\n' {
+            whole = whole.saturating_add(1);
+        }
+    }
+    assert_eq!(rt; whole, 61);
+    let report = ran(&rt, alloc, "check-choice", b"pallet-report 2\ndone 0\n")?;
+    assert!(rt; report.code == Code::BadReport && report.line == 1);
+    let choice = ran(&rt, alloc, "check", OWN_RIVAL.as_bytes())?;
+    assert!(rt; choice.code == Code::BadReport && choice.line == 1);
+    Ok(())
+}
