@@ -160,8 +160,8 @@ passed-over a I g here next l u skips lt ends =
     let z : next ≤ real_finish a I g c.0 = c.2 (omega (arith, c.1)) in
     omega (arith, c.1)
 
-pub EndsFrom-later : (a : Axis) (I : Inst) (g here next : ℕ) (l u : List Spot) → EachCase (EndsFrom a I g here next) l u → EachCase (EndsFrom a I g (here + 1) next) l u
-EndsFrom-later a I g here next l u skips =
+EndsFrom-later : (a : Axis) (I : Inst) (g here later next : ℕ) (l u : List Spot) → here ≤ later → EachCase (EndsFrom a I g here next) l u → EachCase (EndsFrom a I g later next) l u
+EndsFrom-later a I g here later next l u le skips =
     (λ k d p at. skips.0 k d p (omega arith), λ k d p at. skips.1 k d p (omega arith))
 
 -- ---- the greatest run so far
@@ -170,6 +170,9 @@ EndsFrom-later a I g here next l u skips =
 pub record IsGreatestBefore (a : Axis) (I : Inst) (g : ℕ) (l u : List Spot) (here n : ℕ) : Type 0 where
   pub bound : (line row m : ℕ) → line < here → SomeCase (λ s. real_finish a I g s ≡ line) l u → Counts a I g l u line → IsRun a I g l u line row m → m ≤ n
   pub reached : (n ≡ 0) ⊎ SomeRun a I g l u n
+
+pub greatest-none : (a : Axis) (I : Inst) (g : ℕ) (l u : List Spot) → IsGreatestBefore a I g l u 1 0
+greatest-none a I g l u = record { bound = λ line row m lt at counts run. absurd (omega (arith, counts.positive)); reached = inl refl }
 
 pub greatest-next : (a : Axis) (I : Inst) (g here most n : ℕ) (l u : List Spot) → 0 < here → here < real_side a I g → SomeCase (λ s. real_finish a I g s ≡ here) l u → IsGreatestBefore a I g l u here most → IsLongest a I g l u here most n → IsGreatestBefore a I g l u (here + 1) n
 greatest-next a I g here most n l u positive within ends h new =
@@ -190,13 +193,14 @@ greatest-next a I g here most n l u positive within ends h new =
       ];
     }
 
-pub greatest-passed : (a : Axis) (I : Inst) (g here most next : ℕ) (l u : List Spot) → EachCase (EndsFrom a I g here next) l u → here < next → IsGreatestBefore a I g l u here most → IsGreatestBefore a I g l u (here + 1) most
-greatest-passed a I g here most next l u skips lt h =
+-- lines that are passed over, up to the next at which a case ends
+pub greatest-onward : (a : Axis) (I : Inst) (g here most next : ℕ) (l u : List Spot) → EachCase (EndsFrom a I g here next) l u → IsGreatestBefore a I g l u here most → IsGreatestBefore a I g l u next most
+greatest-onward a I g here most next l u skips h =
     record {
-      bound = λ line row m lt' at counts run.
+      bound = λ line row m lt at counts run.
           elim (cases_lt line here) [
             | inl before ↦ h.bound line row m before at counts run
-            | inr from ↦ let e : line ≡ here = omega arith in absurd (passed-over a I g here next l u skips lt (subst (λ k. SomeCase (λ s. real_finish a I g s ≡ k) l u) e at))
+            | inr from ↦ absurd (passed-over a I g line next l u (EndsFrom-later a I g here line next l u from skips) lt at)
           ];
       reached = h.reached;
     }

@@ -128,13 +128,12 @@ fn run_along(
     ensures greatest { IsGreatestRun axis inst gap lower.now upper.now result }
     ensures few { result ≤ 4000 }
 {
+    let side = real_side_along(axis, inst, gap);
     let mut most = 0;
-    let mut next = next_line(axis, inst, gap, lower, upper, 1);
-    for line in 1..real_side_along(axis, inst, gap) {
-        if line == next {
-            most = longest_with(axis, inst, gap, lower, upper, line, most, spans);
-            next = next_line(axis, inst, gap, lower, upper, line + 1);
-        }
+    let mut line = next_line(axis, inst, gap, lower, upper, 1);
+    while line < side {
+        most = longest_with(axis, inst, gap, lower, upper, line, most, spans);
+        line = next_line(axis, inst, gap, lower, upper, line + 1);
     }
     most
 }
