@@ -20,9 +20,9 @@ pub right-by : (found : Bool) (scores : List Score) (told : TailValue) (chosen :
     → (right : Bool) → (right ≡ true) ↔ (told ≡ told_of_both chosen rivals) → IsRightOf found scores told ↔ (right ≡ true)
 right-by found scores told chosen rivals calm choice right same = (
   λ is.
-  let (still, other, others, one, tells) = is in
-  let alike = choice_is_one scores other chosen others rivals one choice in
-  same.1 (tells ∙ ap (λ (c : Option Score). told_of_both c others) alike.0 ∙ ap (λ (rs : List Score). told_of_both chosen rs) alike.1),
+      let (still, other, others, one, tells) = is in
+      let alike = choice_is_one scores other chosen others rivals one choice in
+      same.1 (tells ∙ ap (λ (c : Option Score). told_of_both c others) alike.0 ∙ ap (λ (rs : List Score). told_of_both chosen rs) alike.1),
   λ yes. (calm, chosen, rivals, choice, same.0 yes),
 )
 
@@ -36,12 +36,12 @@ pub told-right : (f : ChoiceFile) (vs : List Verdict) (found : Bool) (scores : L
 told-right f vs found scores told right calm same tail is = (
   λ r. is.0 (sym calm ∙ r.no_no, r.chosen, r.rivals, subst (λ (ss : List Score). IsChoice ss r.chosen r.rivals) (sym same) r.is_choice, tail ∙ r.tail),
   λ yes.
-  let (still, chosen, rivals, choice, tells) = is.1 yes in
-  record {
-    no_no = calm ∙ still;
-    chosen = chosen;
-    rivals = rivals;
-    is_choice = subst (λ (ss : List Score). IsChoice ss chosen rivals) same choice;
-    tail = sym tail ∙ tells;
-  },
+      let (still, chosen, rivals, choice, tells) = is.1 yes in
+      record {
+        no_no = calm ∙ still;
+        chosen = chosen;
+        rivals = rivals;
+        is_choice = subst (λ (ss : List Score). IsChoice ss chosen rivals) same choice;
+        tail = sym tail ∙ tells;
+      },
 )

@@ -23,16 +23,19 @@ fn file_of(alloc: Global, rows: &[&str]) -> Result<Vec<u8>, Fail> {
     Ok(file)
 }
 
-// The code of a run of `choose` over a file, and what it wrote. The sink takes so many bytes a call, and fails at the calls
+// More bytes than any text here has.
+const ROOM: usize = 10_000;
+
+// The code of a run of `choose` over a file, and what it wrote. The sink has room for so many bytes, and fails at the calls
 // of these numbers.
 fn chosen(
     alloc: Global,
     file: Vec<u8>,
-    bytes_a_call: usize,
+    room: usize,
     failing: Vec<u64>,
 ) -> Result<(Code, Vec<u8>), Fail> {
     let mut source = MemSource::new(file, 50, Vec::new(alloc));
-    let mut sink = MemSink::new(alloc, 10_000, bytes_a_call, failing)?;
+    let mut sink = MemSink::new(alloc, room, 64, failing)?;
     let code = choose(alloc, &mut source, &mut sink);
     Ok((code, sink.written().to_vec(alloc)?))
 }
@@ -41,7 +44,7 @@ fn chosen(
 fn chosen_rows(rt: HostRuntime) -> Result<(), Fail> {
     let alloc = rt.alloc();
     let file = file_of(alloc, [FOUR, EIGHT, REFUSED].as_slice())?;
-    let (code, written) = chosen(alloc, file, 64, Vec::new(alloc))?;
+    let (code, written) = chosen(alloc, file, ROOM, Vec::new(alloc))?;
     assert!(rt; code == Code::Findings);
     assert!(rt; written.starts_with(b"pallet-choice 1\nentry 1\nid A\n".as_slice()));
     assert!(rt;
@@ -50,7 +53,7 @@ fn chosen_rows(rt: HostRuntime) -> Result<(), Fail> {
         )
     );
     let file = file_of(alloc, [FOUR, FOUR].as_slice())?;
-    let (code, written) = chosen(alloc, file, 64, Vec::new(alloc))?;
+    let (code, written) = chosen(alloc, file, ROOM, Vec::new(alloc))?;
     assert!(rt; code == Code::Done);
     assert!(rt; written.ends_with(b"\nend\nchosen 1 count 4\ndone 2\n".as_slice()));
     Ok(())
@@ -60,14 +63,14 @@ fn chosen_rows(rt: HostRuntime) -> Result<(), Fail> {
 fn none_chosen(rt: HostRuntime) -> Result<(), Fail> {
     let alloc = rt.alloc();
     let file = file_of(alloc, [REFUSED].as_slice())?;
-    let (code, written) = chosen(alloc, file, 64, Vec::new(alloc))?;
+    let (code, written) = chosen(alloc, file, ROOM, Vec::new(alloc))?;
     assert!(rt; code == Code::Findings);
     assert_eq!(rt;
         written.as_slice(),
         b"pallet-choice 1\nentry 1\nrefused DoesNotFit\nend\nchosen none\ndone 1\n".as_slice()
     );
     let file = file_of(alloc, [].as_slice())?;
-    let (code, written) = chosen(alloc, file, 64, Vec::new(alloc))?;
+    let (code, written) = chosen(alloc, file, ROOM, Vec::new(alloc))?;
     assert!(rt; code == Code::Done);
     assert_eq!(rt;
         written.as_slice(),
@@ -79,13 +82,13 @@ fn none_chosen(rt: HostRuntime) -> Result<(), Fail> {
 #[test]
 fn no_rows(rt: HostRuntime) -> Result<(), Fail> {
     let alloc = rt.alloc();
-    let (code, written) = chosen(alloc, Vec::new(alloc), 64, Vec::new(alloc))?;
+    let (code, written) = chosen(alloc, Vec::new(alloc), ROOM, Vec::new(alloc))?;
     assert!(rt; code == Code::NoHeader && written.is_empty());
     let many = file_of(alloc, [REFUSED; 257].as_slice())?;
-    let (code, written) = chosen(alloc, many, 64, Vec::new(alloc))?;
+    let (code, written) = chosen(alloc, many, ROOM, Vec::new(alloc))?;
     assert!(rt; code == Code::TooManyRows && written.is_empty());
     let long = vec![in alloc; b'A'; 262_145]?;
-    let (code, written) = chosen(alloc, long, 64, Vec::new(alloc))?;
+    let (code, written) = chosen(alloc, long, ROOM, Vec::new(alloc))?;
     assert!(rt; code == Code::TooLong && written.is_empty());
     Ok(())
 }
@@ -102,13 +105,30 @@ fn pieces_of_choices(rt: HostRuntime) -> Result<(), Fail> {
     for (place, text) in wanted.iter().enumerate() {
         let failing = vec![in alloc; place as u64 + 1]?;
         let file = file_of(alloc, [REFUSED].as_slice())?;
-        let (code, written) = chosen(alloc, file, 64, failing)?;
+        let (code, written) = chosen(alloc, file, ROOM, failing)?;
         assert!(rt; code == Code::WriteFault);
         assert_eq!(rt; written.as_slice(), *text);
     }
     let file = file_of(alloc, [REFUSED].as_slice())?;
-    let (code, _) = chosen(alloc, file, 64, vec![in alloc; 4]?)?;
+    let (code, _) = chosen(alloc, file, ROOM, vec![in alloc; 4]?)?;
     assert!(rt; code == Code::Findings);
+    Ok(())
+}
+
+#[test]
+fn short_rooms(rt: HostRuntime) -> Result<(), Fail> {
+    let alloc = rt.alloc();
+    let file = file_of(alloc, [REFUSED].as_slice())?;
+    let (code, written) = chosen(alloc, file, 20, Vec::new(alloc))?;
+    assert!(rt; code == Code::WriteFault);
+    assert_eq!(rt; written.as_slice(), b"pallet-choice 1\nentr".as_slice());
+    let file = file_of(alloc, [REFUSED].as_slice())?;
+    let (code, written) = chosen(alloc, file, 59, Vec::new(alloc))?;
+    assert!(rt; code == Code::WriteFault);
+    assert_eq!(rt;
+        written.as_slice(),
+        b"pallet-choice 1\nentry 1\nrefused DoesNotFit\nend\nchosen none\n".as_slice()
+    );
     Ok(())
 }
 
@@ -254,7 +274,7 @@ fn pieces_of_judgements(rt: HostRuntime) -> Result<(), Fail> {
 fn choices_are_judged_right(rt: HostRuntime) -> Result<(), Fail> {
     let alloc = rt.alloc();
     let file = file_of(alloc, [FOUR, EIGHT, REFUSED].as_slice())?;
-    let (_, text) = chosen(alloc, file, 64, Vec::new(alloc))?;
+    let (_, text) = chosen(alloc, file, ROOM, Vec::new(alloc))?;
     let (answer, written) = judged(alloc, text, Vec::new(alloc))?;
     assert!(rt; answer.code == Code::Done);
     assert_eq!(rt; written.as_slice(), ALL_YES);

@@ -9,8 +9,10 @@ use std::thread::Threads;
 const OWN_RIVAL: &str =
     "pallet-choice 1\nentry 1\nid A\norder 5 5 3 2 1 10 2 1000 100 1 20 0\nreduced 5 5 3 2\ncount 4\nbound 4\nstatus optimal\ncert weighted\nweighting area\ntree .\nlayers 2\nlayer 1 same\n0 0 L\n3 0 S\n0 2 S\n2 3 L\nlayer 2 mirror-x\n0 0 S\n2 0 L\n3 2 S\n0 3 L\nallowed 2\nstack 1 2\nend\nentry 2\nid B\norder 6 6 4 1 1 1 1 1000 0 0 100 0\nreduced 6 6 4 1\ncount 8\nbound 9\nstatus open\ncert weighted\nweighting area\ntree .\nlayers 2\nlayer 1 same\n0 0 L\n4 0 S\n5 0 S\n0 1 L\n0 2 S\n1 2 S\n2 4 L\n2 5 L\nlayer 2 mirror-x\n0 0 S\n1 0 S\n2 0 L\n2 1 L\n4 2 S\n5 2 S\n0 4 L\n0 5 L\nallowed 1\nstack 1\nend\nchosen 2 count 8\nrival 2 bound 9\ndone 2\n";
 
-/// The verdicts of its entries.
-const BOTH: &str = "entry 1 yes\nentry 2 yes\n";
+/// What is written of it where its tail is right, and where it is not.
+const RIGHT: &str = "entry 1 yes\nentry 2 yes\nchoice yes\ndone 2\n";
+
+const WRONG: &str = "entry 1 yes\nentry 2 yes\nchoice no\ndone 2\n";
 
 // What `choose` writes of these rows: the entries that `plan` writes, and this behind them.
 fn chooses<R: Threads + Sync>(
@@ -71,29 +73,21 @@ fn chosen(rt: HostRuntime) -> Result<(), Fail> {
 #[test]
 fn judged(rt: HostRuntime) -> Result<(), Fail> {
     let alloc = rt.alloc();
+    let right = ran(&rt, alloc, "check-choice", OWN_RIVAL.as_bytes())?;
+    assert!(rt; right.code == Code::Done && right.written.as_slice() == RIGHT.as_bytes());
     let cases = [
-        ("chosen 2", "chosen 2", "yes"),
-        ("rival 2 bound 9\n", "", "no"),
-        ("rival 2 bound 9\n", "rival 1 bound 9\n", "no"),
-        ("rival 2 bound 9\n", "rival 2 bound 10\n", "no"),
-        ("chosen 2 count 8", "chosen 1 count 8", "no"),
-        ("chosen 2 count 8", "chosen 2 count 7", "no"),
-        ("chosen 2 count 8", "chosen 3 count 8", "no"),
-        ("chosen 2 count 8", "chosen none", "no"),
+        ("rival 2 bound 9\n", ""),
+        ("rival 2 bound 9\n", "rival 1 bound 9\n"),
+        ("rival 2 bound 9\n", "rival 2 bound 10\n"),
+        ("chosen 2 count 8", "chosen 1 count 8"),
+        ("chosen 2 count 8", "chosen 2 count 7"),
+        ("chosen 2 count 8", "chosen 3 count 8"),
+        ("chosen 2 count 8", "chosen none"),
     ];
-    for (part, other, right) in cases {
+    for (part, other) in cases {
         let text = changed(alloc, OWN_RIVAL, part, other)?;
         let judged = ran(&rt, alloc, "check-choice", &text)?;
-        let wanted = format!(in alloc; "{BOTH}choice {right}\ndone 2\n")?;
-        let code = if right == "yes" {
-            Code::Done
-        } else {
-            Code::Findings
-        };
-        assert!(rt;
-            judged.code == code && judged.written.as_slice() == wanted.as_bytes(),
-            "{other}"
-        );
+        assert!(rt; judged.code == Code::Findings && judged.written.as_slice() == WRONG.as_bytes());
     }
     let text = changed(alloc, OWN_RIVAL, "allowed 2", "allowed 1")?;
     let judged = ran(&rt, alloc, "check-choice", &text)?;
