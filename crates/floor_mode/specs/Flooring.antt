@@ -17,9 +17,9 @@ abbrev pub HasItsTotal : FloorRow → Type 0
 HasItsTotal r = IsTotalLineOf r.floor r.load r.total
 
 -- a row behind so many: the entries of these two orders' rows, and their total
-pub record IsPlannedRow (before : ℕ) (floor load : Row) (r : FloorRow) : Type 0 where
-  pub floor : IsEntryOf (2 * before + 1) floor r.floor
-  pub load : IsEntryOf (2 * before + 2) load r.load
+pub record IsPlannedRow (before : ℕ) (first second : Row) (r : FloorRow) : Type 0 where
+  pub floor : IsEntryOf (2 * before + 1) first r.floor
+  pub load : IsEntryOf (2 * before + 2) second r.load
   pub total : HasItsTotal r
   pub is_row : IsRow before r
 

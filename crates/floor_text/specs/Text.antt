@@ -63,7 +63,7 @@ AreRowsFrom before (r ∷ rs) = IsRow before r × AreRowsFrom (before + 1) rs
 -- the rows of a floor's text: at most 128, whose entries are numbered from 1 without a gap
 pub record IsFloor (rows : List FloorRow) : Type 0 where
   pub few : length rows ≤ 128
-  pub rows : AreRowsFrom 0 rows
+  pub numbered : AreRowsFrom 0 rows
 
 -- the bytes are this text
 pub record IsFloorIn (bytes : List ℕ) (rows : List FloorRow) : Type 0 where

@@ -1,10 +1,10 @@
 // Reading a row, and all rows.
-ghost use Rattle.std.specs.Prelude.{◌≡◌, ◌≤◌, ◌+◌, ◌*◌, IfOk};
+ghost use Rattle.std.specs.Prelude.{◌≡◌, ◌≤◌, length, IfOk};
 ghost use Rattle.texts.specs.Grammar.{first_by};
 ghost use Rattle.texts.specs.Gives.{Gives, GivesOrLeaves};
 ghost use Rattle.texts.specs.Lines.{whole_lines, unfinished};
 ghost use Rattle.truck_floor.specs.Words.{total_of as total_told};
-ghost use Rattle.floor_text.specs.Lines.{numbered_entry_at, both_at, row_at, rows_counted, all_rows_at};
+ghost use Rattle.floor_text.specs.Lines.{numbered_entry_at, row_at, rows_counted, all_rows_at};
 
 use crate::cursors::Rows;
 use crate::rows::FloorRow;
@@ -80,6 +80,7 @@ fn count_rows(alloc: Global, bytes: &[u8]) -> Result<(u32, &[u8]), Stop>
 // The rows that follow one after another, and the bytes after them.
 pub(crate) fn rows_at(alloc: Global, bytes: &[u8]) -> Result<(Rows<'_>, &[u8]), Stop>
     ensures read { Gives (λ x. (x.0, whole_lines x.1.now)) result (all_rows_at (whole_lines bytes.now)) }
+    ensures few { IfOk result (λ x. length x.0 ≤ 128) }
     ensures rest { IfOk result (λ x. unfinished x.1.now ≡ unfinished bytes.now) }
 {
     let (count, rest) = count_rows(alloc, bytes)?;
