@@ -69,7 +69,7 @@ due (r ∷ rs) accepted totals together =
     let rest = All-tail IsAcceptedEntry r.floor (r.load ∷ entries_in rs) accepted in
     let second = All-head IsAcceptedEntry r.load (entries_in rs) rest in
     let right : IsRightRow r (verdict_due r.floor) (verdict_due r.load) = record { no_no = neither-no r; total = record { together = together.0; total = All-head HasItsTotal r rs totals } } in (
-      record { floor = first.0; load = second.0; right = (λ is. refl, λ yes. right) },
+      record { floor = first.0; load = second.0; right = (λ is. refl, λ told. right) },
       due rs (All-tail IsAcceptedEntry r.load (entries_in rs) rest) (All-tail HasItsTotal r rs totals) together.1,
     )
 

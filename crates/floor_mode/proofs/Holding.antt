@@ -43,8 +43,8 @@ holds-for bounded reached (Planned p) (Refused n fault) total v w first second i
 holds-for bounded reached (Refused n fault) load total v w first second is_v is_w together is = is
 
 pub totals-hold : FloorLoadsAreBounded → FloorLoadsAreReached → TotalsHold
-totals-hold bounded reached read wrote found judged k r j at_row at_judgement yes =
+totals-hold bounded reached read wrote found judged k r j at_row at_judgement told =
     let is : IsJudgement r j = nth-judged judged.rows judged.judgements judged.are_judgements k r j at_row at_judgement in
-    let right : IsRightRow r j.floor j.load = is.right.1 yes in
+    let right : IsRightRow r j.floor j.load = is.right.1 told in
     let calm = either-false (is_no j.floor) (is_no j.load) right.no_no in
     holds-for bounded reached r.floor r.load r.total j.floor j.load calm.0 calm.1 is.floor is.load right.total.together right.total.total

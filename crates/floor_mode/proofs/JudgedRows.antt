@@ -32,7 +32,7 @@ judged-next (q ∷ rs) (k ∷ js) r j are one = (are.0, judged-next rs js r j ar
 -- judgements of the rows before are those of the first rows, whatever follows them
 pub first-of : (all before now : List FloorRow) (js : List RowJudgement) → all ≡ before ++ now → AreJudgements before js → AreFirstJudgements all js
 first-of all before now js parts are =
-    let front : take (length js) all ≡ before = ap (λ (l : List FloorRow). take (length js) l) parts ∙ take_at before now (length js) (as-many before js are) in
+    let front : take (length js) all ≡ before = ap (λ (l : List FloorRow). take (length js) l) parts ∙ take_at before now (length js) (sym (as-many before js are)) in
     subst (λ (l : List FloorRow). AreJudgements l js) (sym front) are
 
 pub all-first : (rs : List FloorRow) (js : List RowJudgement) → AreJudgements rs js → AreFirstJudgements rs js

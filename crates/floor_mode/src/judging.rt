@@ -6,7 +6,7 @@ ghost use Rattle.run_parts.specs.Written.{Wrote, WrotePart};
 ghost use Rattle.cert_text.specs.declared.forms.Form.TheVariants.{Two};
 ghost use Rattle.plan_entries.specs.Ranges.{IsInRange};
 ghost use Rattle.floor_text.specs.declared.rows.FloorRow.{FloorRow};
-ghost use Rattle.floor_text.specs.Text.{entries_in, both_entries};
+ghost use Rattle.floor_text.specs.Text.{entries_in};
 ghost use Rattle.floor_mode.specs.Judging.{HasRightTotal, IsJudgement, AreJudgements, AreFirstJudgements, is_wrong as is_wrong_row, any_wrong, row_judged, rows_judged, begun_text, judged_text};
 ghost use Rattle.floor_mode.specs.CheckRuns.{CheckFloorRan};
 
@@ -133,7 +133,8 @@ fn next_row(alloc: Global, rows: &mut Rows<'_>) -> Result<Option<FloorRow>, Writ
 
 // Writes what is told of a row, and answers whether something is wrong.
 fn judge_row<K: Sink>(alloc: Global, row: &FloorRow, sink: &mut K) -> Result<bool, WriteStop>
-    requires { All (IsInRange Two) (both_entries row.now) }
+    requires floor { IsInRange Two row.now.floor }
+    requires load { IsInRange Two row.now.load }
     ensures ok { IfOk result (λ wrong. (j : RowJudgement) × IsJudgement row.now j × (is_wrong_row j ≡ wrong)
         × Wrote (K.past sink.old) (K.past sink.new) (row_judged row.now j)) }
     ensures part { IsErrOf result WriteStop.Fault → (j : RowJudgement) × IsJudgement row.now j
@@ -154,7 +155,8 @@ fn judge_row<K: Sink>(alloc: Global, row: &FloorRow, sink: &mut K) -> Result<boo
 
 // What is right to tell of a row.
 fn judgement_of(alloc: Global, row: &FloorRow) -> Result<RowJudgement, Memory>
-    requires { All (IsInRange Two) (both_entries row.now) }
+    requires floor { IsInRange Two row.now.floor }
+    requires load { IsInRange Two row.now.load }
     ensures { IfOk result (λ j. IsJudgement row.now j) }
 {
     let floor = judge(alloc, &row.floor)?;

@@ -1,9 +1,7 @@
 ghost use Rattle.floor_mode.specs.Laws.{FloorsAreComplete, ChecksOfFloorsAreComplete, TotalsHold, FloorsAreAccepted};
 
 use floor_text::{floors_are_lines, floors_are_short, floors_have_one_spelling};
-use truck_floor::{
-    floor_loads_are_bounded, floor_loads_are_reached, floors_fit_their_loads, totals_are_one,
-};
+use truck_floor::{floor_loads_are_bounded, floor_loads_are_reached, floors_fit_their_loads};
 
 /// A run of `floor` that read a floors file within its limits, on streams whose counts of faults did not rise, lacked
 /// nothing but memory.
@@ -35,5 +33,4 @@ pub fn floors_are_accepted()
     floors_have_one_spelling();
     floors_are_short();
     floors_fit_their_loads();
-    totals_are_one();
 }
