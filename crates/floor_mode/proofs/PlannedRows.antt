@@ -94,5 +94,3 @@ pub all-planned : (rows : List Row) (floors : List FloorRow) → ArePlanned rows
 all-planned rows floors are =
     subst (λ (rs : List Row). ArePlanned rs floors) (sym (take_all (2 * length floors) rows (omega (arith, planned-count rows floors are)))) are
 
-pub whole-planned : (rows : List Row) (i : ℕ) (floors : List FloorRow) → length rows ≤ 2 * i → ArePlanned (take (2 * i) rows) floors → ArePlanned rows floors
-whole-planned rows i floors le are = subst (λ (rs : List Row). ArePlanned rs floors) (take_all (2 * i) rows le) are

@@ -30,7 +30,13 @@ pub(crate) fn is_total_line(floor: &Entry, load: &Entry, line: &TotalLine) -> bo
     ensures { (result ≡ true) ↔ IsTotalLineOf floor.now load.now line.now }
 {
     totals_are_one();
-    *line == total_line(floor, load)
+    are_same(line, &total_line(floor, load))
+}
+
+fn are_same(a: &TotalLine, b: &TotalLine) -> bool
+    ensures { (result ≡ true) ↔ (a.now ≡ b.now) }
+{
+    a == b
 }
 
 // Whether an entry is that of a refused row, or the first order is that of a floor for the loaded pallets of the second.
