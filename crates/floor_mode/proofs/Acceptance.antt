@@ -22,7 +22,7 @@ use Rattle.floor_text.specs.Text.{entries_in, floor_lines, floor_text, IsFloor, 
 use Rattle.floor_text.proofs.Lengths.{entries_count}
 use Rattle.floor_mode.specs.declared.judging.RowJudgement.{RowJudgement}
 use Rattle.floor_mode.specs.Totals.{GoTogether}
-use Rattle.floor_mode.specs.Flooring.{HasItsTotal}
+use Rattle.floor_mode.specs.Planning.{HasItsTotal}
 use Rattle.floor_mode.specs.Judging.{IsRightRow, IsJudgement, AreJudgements, any_wrong, FloorJudged, judged_text}
 use Rattle.floor_mode.specs.Laws.{judgement_due, FloorsAreAccepted}
 use Rattle.floor_mode.proofs.JudgedRows.{one-list}

@@ -16,7 +16,7 @@ use Rattle.plan_mode.proofs.EntryFacts.{as_many, entries-more}
 use Rattle.floor_text.specs.declared.rows.FloorRow.{FloorRow}
 use Rattle.floor_text.specs.Text.{both_entries, entries_in, row_text, rows_text, IsRow, AreRowsFrom}
 use Rattle.floor_text.proofs.Lengths.{entries_count}
-use Rattle.floor_mode.specs.Flooring.{HasItsTotal, IsPlannedRow, ArePlanned, AreFirstPlanned}
+use Rattle.floor_mode.specs.Planning.{HasItsTotal, IsPlannedRow, ArePlanned, AreFirstPlanned}
 
 -- an entry bears its row's number
 pub number-is : (n : ℕ) (r : Row) (e : Entry) → IsEntryOf n r e → number_of_entry e ≡ n

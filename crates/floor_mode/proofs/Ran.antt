@@ -11,7 +11,7 @@ use Rattle.floor_text.specs.declared.rows.FloorRow.{FloorRow}
 use Rattle.floor_text.specs.Text.{head_text, rows_text}
 use Rattle.floor_mode.specs.declared.judging.RowJudgement.{RowJudgement}
 use Rattle.floor_mode.specs.FloorsFiles.{HasFloors}
-use Rattle.floor_mode.specs.Flooring.{AreFirstPlanned}
+use Rattle.floor_mode.specs.Planning.{AreFirstPlanned}
 use Rattle.floor_mode.specs.FloorRuns.{FloorRan}
 use Rattle.floor_mode.specs.Reading.{HasFloorText}
 use Rattle.floor_mode.specs.Judging.{AreFirstJudgements, FloorJudgedInPart, FloorJudgedFirst, rows_judged, begun_text}

@@ -5,7 +5,7 @@ use Rattle.plan_io.specs.Causes.{Rose}
 use Rattle.run_parts.specs.declared.codes.Code.{Code}
 use Rattle.run_parts.specs.declared.codes.Code.TheVariants.{Done, Findings, Usage, TooLong, NoHeader, TooManyRows, BadReport, ReadFault, WriteFault, Memory}
 use Rattle.floor_mode.specs.FloorsFiles.{most_bytes, HasNoFloorsHeader, HasTooManyFloors}
-use Rattle.floor_mode.specs.Flooring.{FloorReported, FloorBegun, FloorBrokeOff}
+use Rattle.floor_mode.specs.Planning.{FloorReported, FloorBegun, FloorBrokeOff}
 
 -- What each code says of the bytes that were read and of those that were written, and of how both streams stand then.
 abbrev pub FloorMeans : Code → List ℕ → List ℕ → Intake → Intake → Outlet → Outlet → Type 0

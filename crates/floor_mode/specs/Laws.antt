@@ -18,7 +18,7 @@ use Rattle.truck_floor.specs.Laws.{IsReached}
 use Rattle.floor_text.specs.declared.rows.FloorRow.{FloorRow}
 use Rattle.floor_mode.specs.declared.judging.RowJudgement.{RowJudgement}
 use Rattle.floor_mode.specs.FloorsFiles.{HasFloors}
-use Rattle.floor_mode.specs.Flooring.{FloorReported}
+use Rattle.floor_mode.specs.Planning.{FloorReported}
 use Rattle.floor_mode.specs.FloorRuns.{FloorRan}
 use Rattle.floor_mode.specs.Reading.{IsFloorBytes}
 use Rattle.floor_mode.specs.Judging.{FloorJudged, judged_text}

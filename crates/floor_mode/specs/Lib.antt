@@ -1,6 +1,6 @@
 pub mod Totals
 pub mod FloorsFiles
-pub mod Flooring
+pub mod Planning
 pub mod FloorRuns
 pub mod Reading
 pub mod Judging

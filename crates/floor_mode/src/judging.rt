@@ -10,7 +10,7 @@ ghost use Rattle.floor_text.specs.Text.{entries_in};
 ghost use Rattle.floor_mode.specs.Judging.{HasRightTotal, IsJudgement, AreJudgements, AreFirstJudgements, is_wrong as is_wrong_row, any_wrong, row_judged, rows_judged, begun_text, judged_text};
 ghost use Rattle.floor_mode.specs.CheckRuns.{CheckFloorRan};
 
-use crate::flooring::{either, ending};
+use crate::planning::{either, ending};
 use crate::reading::{read_bytes, rows_of};
 use crate::totals::{go_together, is_total_line};
 use check_mode::{is_no, plain};

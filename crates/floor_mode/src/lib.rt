@@ -2,17 +2,17 @@
 //! whether a text that says so is right.
 #![tactic(auto)]
 
-mod flooring;
 mod judging;
 mod laws;
+mod planning;
 mod reading;
 mod totals;
 
-pub use flooring::floor;
 pub use judging::{RowJudgement, check_floor};
 pub use laws::{
     checks_of_floors_are_complete, floors_are_accepted, floors_are_complete, totals_hold,
 };
+pub use planning::floor;
 
 #[cfg(test)]
 mod tests;

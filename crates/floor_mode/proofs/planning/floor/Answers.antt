@@ -5,7 +5,7 @@ use Rattle.order_reader.specs.declared.rows.Row.{Row}
 use Rattle.floor_text.specs.Text.{rows_text}
 use Rattle.floor_mode.proofs.FloorFound.{few-rows, pairs}
 use Rattle.floor_mode.proofs.Shown.{head-shows}
-use Rattle.floor_mode.proofs.flooring.floor.Goals as goal
+use Rattle.floor_mode.proofs.planning.floor.Goals as goal
 
 pub write_floor-requires-clause-few : goal.write_floor-requires-clause-few
 write_floor-requires-clause-few g c =

@@ -8,7 +8,7 @@ use Rattle.plan_mode.specs.Pieces.{done_if}
 use Rattle.plan_mode.proofs.Acceptance.{are_accepted}
 use Rattle.floor_text.specs.Text.{entries_in, head_text, rows_text}
 use Rattle.floor_mode.proofs.PlannedRows.{none-planned, all-planned, planned-count}
-use Rattle.floor_mode.proofs.flooring.write_floor.Goals as goal
+use Rattle.floor_mode.proofs.planning.write_floor.Goals as goal
 
 pub returns-in_err-send-clause-part : goal.returns-in_err-send-clause-part
 returns-in_err-send-clause-part g c = λ is.

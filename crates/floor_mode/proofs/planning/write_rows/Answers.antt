@@ -7,7 +7,7 @@ use Rattle.plan_entries.specs.Entries.{any_refused}
 use Rattle.floor_text.specs.declared.rows.FloorRow.{FloorRow}
 use Rattle.floor_text.specs.Text.{both_entries, row_text, rows_text}
 use Rattle.floor_mode.proofs.PlannedRows.{text-next, refused-next, planned-next, first-planned}
-use Rattle.floor_mode.proofs.flooring.write_rows.Goals as goal
+use Rattle.floor_mode.proofs.planning.write_rows.Goals as goal
 
 pub returns-in_err-refused-clause-part : goal.returns-in_err-refused-clause-part
 returns-in_err-refused-clause-part g c = λ is.

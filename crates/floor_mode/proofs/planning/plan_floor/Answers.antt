@@ -1,5 +1,5 @@
 use Rattle.floor_mode.proofs.PlannedRows.{number-is}
-use Rattle.floor_mode.proofs.flooring.plan_floor.Goals as goal
+use Rattle.floor_mode.proofs.planning.plan_floor.Goals as goal
 
 pub returns : goal.returns
 returns c =

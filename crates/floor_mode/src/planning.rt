@@ -8,7 +8,7 @@ ghost use Rattle.report_text.specs.Reports.{done_text};
 ghost use Rattle.plan_mode.specs.Accepted.{AreAccepted};
 ghost use Rattle.floor_text.specs.declared.rows.FloorRow.{FloorRow};
 ghost use Rattle.floor_text.specs.Text.{both_entries, entries_in, head_text, row_text as text_of_row, rows_text, floor_text};
-ghost use Rattle.floor_mode.specs.Flooring.{IsPlannedRow, ArePlanned, AreFirstPlanned, begun_text};
+ghost use Rattle.floor_mode.specs.Planning.{IsPlannedRow, ArePlanned, AreFirstPlanned, begun_text};
 ghost use Rattle.floor_mode.specs.FloorRuns.{FloorRan};
 
 use crate::reading::read_rows;

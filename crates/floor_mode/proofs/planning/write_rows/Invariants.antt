@@ -3,8 +3,8 @@ use Rattle.run_parts.specs.Written.{Wrote}
 use Rattle.plan_entries.specs.Entries.{any_refused}
 use Rattle.floor_text.specs.declared.rows.FloorRow.{FloorRow}
 use Rattle.floor_text.specs.Text.{entries_in, rows_text}
-use Rattle.floor_mode.specs.Flooring.{ArePlanned}
-use Rattle.floor_mode.proofs.flooring.write_rows.Given as goal
+use Rattle.floor_mode.specs.Planning.{ArePlanned}
+use Rattle.floor_mode.proofs.planning.write_rows.Given as goal
 
 abbrev pub invariant-loop-before : goal.invariant-loop-before
 invariant-loop-before g l = record {
