@@ -5,7 +5,7 @@ use std::alloc::Global;
 use std::test::Fail;
 
 // What a weighting gives on a pallet on which a case fits: the total, the least weight, the bound.
-fn measures(weighting: &Weighting, inst: Inst) -> Option<(u64, u64, Option<u32>)> {
+fn measures(weighting: &Weighting, inst: Inst) -> Option<(u64, u64, Option<u64>)> {
     if !weighting.belongs(inst) || !case_fits(inst) {
         return None;
     }
