@@ -47,6 +47,8 @@ table_or_tree I (certs.Weighted (weightings.Colour k c) tree) h = tt
 table_or_tree I (certs.Weighted (weightings.Comb p a r b) tree) h = tt
 table_or_tree I (certs.Weighted (weightings.Table t) tree) (inl h) = absurd h.0
 table_or_tree I (certs.Weighted (weightings.Table t) tree) (inr h) = h.1
+table_or_tree I (certs.Weighted (weightings.Lines t) tree) (inl h) = absurd h.0
+table_or_tree I (certs.Weighted (weightings.Lines t) tree) (inr h) = h.1
 table_or_tree I (certs.Strip cuts) h = tt
 table_or_tree I certs.GivenArea h = tt
 
