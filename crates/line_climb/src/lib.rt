@@ -1,0 +1,7 @@
+//! Walks over corner states that a table of weights on few lines guides to a layer of one case more.
+#![tactic(auto)]
+
+mod climbs;
+
+pub use climbs::climb;
+pub use plan_memory::Memory;
