@@ -1,11 +1,94 @@
-ghost use Rattle.std.specs.Prelude.{◌≡◌, ◌≤◌, length, IfOk};
+ghost use Rattle.std.specs.Prelude.{◌≡◌, ◌≤◌, ◌<◌, length, IfOk, IfSome};
 ghost use Rattle.plan_geometry.specs.Layout.{CaseFits};
 ghost use Rattle.plan_geometry.specs.Placed.{IsLayer};
+ghost use Rattle.line_climb.specs.Climbing.{IsLayerOfMore, IfFound};
 
+use crate::guides::Guide;
+use crate::manners::{Aim, LYING_FIRST, STANDING_FIRST};
+use crate::walks::{Walked, walk};
 use line_tables::LineTable;
-use plan_geometry::Layer;
+use plan_geometry::{Inst, Layer, Spot};
 use plan_memory::Memory;
 use std::alloc::Global;
+
+// The parts, in 256ths, that a walk may waste on top of its share. The first walks are whole.
+const PARTS: [Option<u64>; 3] = [None, Some(64), Some(16)];
+
+// How walks in some manner end: with a layer of more cases; with all states met; or neither.
+#[derive(Drop)]
+enum Climbed {
+    Found(Layer),
+    Ended,
+    Spent,
+}
+
+// What guides a climb on a pallet: the guides on the pallet straight and with its axes exchanged, the weight of the
+// table and the least of a case.
+#[derive(Drop)]
+struct Guides<'a> {
+    inst: Inst,
+    straight: Guide<'a>,
+    exchanged: Guide<'a>,
+    total: u64,
+    least: u64,
+    most_states: u32,
+}
+
+// The layer of these cases, if they are a layout, and more than so many.
+fn layer_of_more(inst: Inst, spots: Vec<Spot>, count: u32) -> Option<Layer>
+    ensures { IfSome result (IsLayerOfMore inst count) }
+{
+    match Layer::new(inst, spots) {
+        Some(layer) if count < layer.count() => Some(layer),
+        _ => None,
+    }
+}
+
+impl<'a> Guides<'a> {
+    // Looks for a layer of more than so many cases, on the pallet and with its axes exchanged, lying first and standing
+    // first. With no part the walks are whole: one that meets all its states ends the climb.
+    fn walk_with(
+        &self,
+        alloc: Global,
+        count: u32,
+        part: Option<u64>,
+    ) -> Result<Climbed, Memory>
+        ensures { IfOk result (IfFound (IsLayerOfMore self.now.inst count)) }
+    {
+        let aim = Aim::of(u64::from(count) + 1, self.least, self.total, part);
+        for (guide, steps) in [
+            (&self.straight, &LYING_FIRST),
+            (&self.straight, &STANDING_FIRST),
+            (&self.exchanged, &LYING_FIRST),
+            (&self.exchanged, &STANDING_FIRST),
+        ] {
+            match walk(alloc, guide, &aim, steps, self.most_states)? {
+                Walked::Found(spots) => {
+                    if let Some(layer) = layer_of_more(self.inst, spots, count) {
+                        return Ok(Climbed::Found(layer));
+                    }
+                }
+                Walked::Ended if part.is_none() => return Ok(Climbed::Ended),
+                _ => {}
+            }
+        }
+        Ok(Climbed::Spent)
+    }
+
+    // A layer of more than so many cases, if walks find one.
+    fn more(&self, alloc: Global, count: u32) -> Result<Option<Layer>, Memory>
+        ensures { IfOk result (λ found. IfSome found (IsLayerOfMore self.now.inst count)) }
+    {
+        for part in PARTS {
+            match self.walk_with(alloc, count, part)? {
+                Climbed::Found(layer) => return Ok(Some(layer)),
+                Climbed::Ended => return Ok(None),
+                Climbed::Spent => {}
+            }
+        }
+        Ok(None)
+    }
+}
 
 /// A layer of as many cases or more, where walks that the table guides find one: as long as there are fewer than `most`
 /// cases, walks look for one case more, each within `most_states` states.
@@ -23,9 +106,24 @@ pub fn climb(
     ensures kept { IfOk result (λ a. length a.spots ≡ length layer.spots → a ≡ layer) }
 {
     let inst = layer.inst();
-    if table.least(inst) == 0 || most_states == 0 || most <= layer.count() {
+    let least = table.least(inst);
+    if least == 0 {
         return Ok(layer);
     }
-    let _spots: Vec<u32> = Vec::new(alloc);
-    Ok(layer)
+    let guides = Guides {
+        inst,
+        straight: Guide::straight(alloc, inst, table)?,
+        exchanged: Guide::exchanged(alloc, inst, table)?,
+        total: table.total(),
+        least,
+        most_states,
+    };
+    let mut best = layer;
+    for _ in best.count()..most {
+        match guides.more(alloc, best.count())? {
+            Some(found) => best = found,
+            None => break,
+        }
+    }
+    Ok(best)
 }

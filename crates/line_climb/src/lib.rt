@@ -2,6 +2,12 @@
 #![tactic(auto)]
 
 mod climbs;
+mod guides;
+mod manners;
+mod sides;
+mod skylines;
+mod walks;
 
 pub use climbs::climb;
 pub use plan_memory::Memory;
+

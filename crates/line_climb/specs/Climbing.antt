@@ -1,0 +1,25 @@
+-- What a climb finds.
+use Rattle.std.specs.Prelude.{◌≡◌, ℕ, ◌<◌, ◌≤◌, length, ⊤}
+use Rattle.plan_geometry.specs.declared.instances.Inst.{Inst}
+use Rattle.plan_geometry.specs.Placed.{Placed, IsLayer}
+use Rattle.line_climb.specs.declared.climbs.Climbed.{Climbed}
+use Rattle.line_climb.specs.declared.climbs.Climbed.TheVariants.{Found, Ended, Spent}
+
+-- a layer of the instance with more than n cases
+pub record IsLayerOfMore (I : Inst) (n : ℕ) (layer : Placed) : Type 0 where
+  pub of_inst : layer.inst ≡ I
+  pub is_layer : IsLayer layer.inst layer.spots
+  pub more : n < length layer.spots
+
+-- what is found, if anything is, is so
+abbrev pub IfFound : (Placed → Type 0) → Climbed → Type 0
+IfFound P (Found layer) = P layer
+IfFound P Ended = ⊤
+IfFound P Spent = ⊤
+
+-- the second layer is one of the same instance, with no fewer cases, and the first one itself where it has as many
+pub record ClimbsTo (below above : Placed) : Type 0 where
+  pub of_inst : above.inst ≡ below.inst
+  pub is_layer : IsLayer above.inst above.spots
+  pub grown : length below.spots ≤ length above.spots
+  pub kept : length above.spots ≡ length below.spots → above ≡ below
