@@ -1,3 +1,6 @@
+ghost use Rattle.std.specs.Prelude.{◌≡◌, true, false};
+ghost use Rattle.line_climb.specs.Turning.{IsTurned, IsTurnedCase};
+
 use crate::manners::Step;
 use crate::sides::Side;
 use line_tables::LineTable;
@@ -33,7 +36,9 @@ pub(crate) struct Guide<'a> {
 }
 
 // The pallet with its axes exchanged, and the same case.
-fn turned(inst: Inst) -> Inst {
+fn turned(inst: Inst) -> Inst
+    ensures { IsTurned inst result }
+{
     Inst {
         l_side: inst.w_side,
         w_side: inst.l_side,
@@ -75,7 +80,11 @@ impl<'a> Guide<'a> {
     }
 
     // The case at a place of this pallet, as it lies on the pallet that is straight.
-    pub(crate) fn spot(&self, x: u32, y: u32, way: Way) -> Spot {
+    pub(crate) fn spot(&self, x: u32, y: u32, way: Way) -> Spot
+        ensures straight { self.now.exchanged ≡ false → result ≡ record { x = x; y = y; way = way } }
+        ensures exchanged { self.now.exchanged ≡ true
+            → IsTurnedCase self.now.inst (record { x = x; y = y; way = way }) result }
+    {
         if !self.exchanged {
             return Spot { x, y, way };
         }
