@@ -1,5 +1,5 @@
 -- What a climb finds.
-use Rattle.std.specs.Prelude.{◌≡◌, ℕ, ◌+◌, ◌≤◌, length, ⊤}
+use Rattle.std.specs.Prelude.{◌≡◌, ℕ, ◌+◌, length, ⊤}
 use Rattle.plan_geometry.specs.declared.instances.Inst.{Inst}
 use Rattle.plan_geometry.specs.Placed.{Placed, IsLayer}
 use Rattle.line_climb.specs.declared.climbs.Climbed.{Climbed}
@@ -16,10 +16,3 @@ abbrev pub IfFound : (Placed → Type 0) → Climbed → Type 0
 IfFound P (Found layer) = P layer
 IfFound P Ended = ⊤
 IfFound P Spent = ⊤
-
--- the second layer is one of the same instance, with no fewer cases, and the first one itself where it has as many
-pub record ClimbsTo (below above : Placed) : Type 0 where
-  pub of_inst : above.inst ≡ below.inst
-  pub is_layer : IsLayer above.inst above.spots
-  pub grown : length below.spots ≤ length above.spots
-  pub kept : length above.spots ≡ length below.spots → above ≡ below

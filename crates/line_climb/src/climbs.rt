@@ -49,12 +49,7 @@ fn layer_of_more(inst: Inst, spots: Vec<Spot>, count: u32) -> Option<Layer>
 impl<'a> Guides<'a> {
     // Looks for a layer of one case more than so many, on the pallet and with its axes exchanged, lying first and standing
     // first. With no part the walks are whole: one that meets all its states ends the climb.
-    fn walk_with(
-        &self,
-        alloc: Global,
-        count: u32,
-        part: Option<u64>,
-    ) -> Result<Climbed, Memory>
+    fn walk_with(&self, alloc: Global, count: u32, part: Option<u64>) -> Result<Climbed, Memory>
         ensures { IfOk result (IfFound (HasOneMore self.now.inst count)) }
     {
         let aim = Aim::of(u64::from(count) + 1, self.least, self.total, part);

@@ -112,8 +112,12 @@ impl<'a> Guide<'a> {
         let right = self.columns.at(block.x_end).lines;
         let low = self.rows.at(block.y).lines;
         let high = self.rows.at(block.y_end).lines;
-        let above = self.first_weight(right, high).saturating_sub(self.first_weight(left, high));
-        let under = self.first_weight(right, low).saturating_sub(self.first_weight(left, low));
+        let above = self
+            .first_weight(right, high)
+            .saturating_sub(self.first_weight(left, high));
+        let under = self
+            .first_weight(right, low)
+            .saturating_sub(self.first_weight(left, low));
         above.saturating_sub(under)
     }
 

@@ -11,3 +11,5 @@ mod walks;
 pub use climbs::climb;
 pub use plan_memory::Memory;
 
+#[cfg(test)]
+mod tests;

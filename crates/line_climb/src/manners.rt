@@ -8,10 +8,17 @@ pub(crate) enum Step {
 }
 
 // The steps in the two orders in which walks try them.
-pub(crate) const LYING_FIRST: [Step; 3] =
-    [Step::Case(Way::Lying), Step::Case(Way::Standing), Step::Waste];
-pub(crate) const STANDING_FIRST: [Step; 3] =
-    [Step::Case(Way::Standing), Step::Case(Way::Lying), Step::Waste];
+pub(crate) const LYING_FIRST: [Step; 3] = [
+    Step::Case(Way::Lying),
+    Step::Case(Way::Standing),
+    Step::Waste,
+];
+
+pub(crate) const STANDING_FIRST: [Step; 3] = [
+    Step::Case(Way::Standing),
+    Step::Case(Way::Lying),
+    Step::Waste,
+];
 
 // What a walk looks for and what it leaves out. It looks for so many cases, each of which weighs at least `least`, so
 // where the weight above a state cannot hold the cases that are missing, the state is left.

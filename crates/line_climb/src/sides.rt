@@ -63,12 +63,7 @@ fn first_above(places: &[u32], place: u32, end: u32) -> u32 {
 
 impl Side {
     // The side of the pallet along an axis, of which these are the lines.
-    pub(crate) fn of(
-        alloc: Global,
-        axis: Axis,
-        inst: Inst,
-        lines: &[u32],
-    ) -> Result<Side, Memory> {
+    pub(crate) fn of(alloc: Global, axis: Axis, inst: Inst, lines: &[u32]) -> Result<Side, Memory> {
         let length = side_along(axis, inst);
         let points = Points::of(alloc, length, inst.long, inst.short)?;
         let lying = raster_places(alloc, &points, axis, inst, Way::Lying)?;

@@ -1,6 +1,6 @@
 -- What was found so far is a climb from the layer that was given, and each turn comes nearer to the most cases.
 use Rattle.std.proofs.Common.{◌≡◌, ◌≤◌, ◌-◌, length}
-use Rattle.line_climb.specs.Climbing.{ClimbsTo}
+use Rattle.line_climb.proofs.Rising.{ClimbsTo}
 use Rattle.line_climb.proofs.climbs.climb.Given as goal
 
 abbrev pub invariant-loop-alloc : goal.invariant-loop-alloc
