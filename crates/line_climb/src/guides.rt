@@ -1,4 +1,4 @@
-ghost use Rattle.std.specs.Prelude.{◌≡◌, true, false};
+ghost use Rattle.std.specs.Prelude.{◌≡◌, true, false, IfOk};
 ghost use Rattle.line_climb.specs.Turning.{IsTurned, IsTurnedCase};
 
 use crate::manners::Step;
@@ -53,7 +53,10 @@ impl<'a> Guide<'a> {
         alloc: Global,
         inst: Inst,
         table: &'a LineTable,
-    ) -> Result<Guide<'a>, Memory> {
+    ) -> Result<Guide<'a>, Memory>
+        ensures inst { IfOk result (λ guide. guide.inst ≡ inst) }
+        ensures straight { IfOk result (λ guide. guide.exchanged ≡ false) }
+    {
         Ok(Guide {
             inst,
             table,
@@ -68,7 +71,10 @@ impl<'a> Guide<'a> {
         alloc: Global,
         inst: Inst,
         table: &'a LineTable,
-    ) -> Result<Guide<'a>, Memory> {
+    ) -> Result<Guide<'a>, Memory>
+        ensures inst { IfOk result (λ guide. IsTurned inst guide.inst) }
+        ensures exchanged { IfOk result (λ guide. guide.exchanged ≡ true) }
+    {
         let inst = turned(inst);
         Ok(Guide {
             inst,
@@ -95,7 +101,7 @@ impl<'a> Guide<'a> {
         Spot { x: y, y: x, way }
     }
 
-    // The weight on the first so many lines across and along.
+    // The weight where the first so many lines across meet the first so many along, of the lines that the table has.
     fn first_weight(&self, across: usize, along: usize) -> u64 {
         let table = self.table;
         let (i, j) = if self.exchanged {

@@ -42,7 +42,7 @@ const SHARE_BITS: u32 = 24;
 impl Aim {
     // The walk that looks for so many cases. With a part it is steady: a state is left where it has wasted more than its
     // share of the weight that the cases spare, and so many 256th parts of that on top. A total is below 2^34, so the
-    // weight that is spared, in 2^24ths, is below 2^58.
+    // weight that is spared, in 2^24ths, is below 2^58, and so is a part in 2^24ths of what is done.
     pub(crate) fn of(cases: u64, least: u64, total: u64, part: Option<u64>) -> Aim {
         let spare = total.saturating_sub(cases.saturating_mul(least));
         let steady = match part {

@@ -69,7 +69,7 @@ impl Skyline {
         })
     }
 
-    // The run at a column, of no columns behind the last one.
+    // The run at a column. Behind the last column there is one of no columns.
     fn run_at(&self, x: u32) -> Run {
         match self.runs.as_slice().get(x as usize) {
             Some(run) => *run,
@@ -105,7 +105,7 @@ impl Skyline {
         best
     }
 
-    // Makes a step that takes these cells of this weight.
+    // Makes a step that takes these cells of this weight. Where memory is refused the state stays as it is.
     fn advance(
         &mut self,
         at: Corner,
@@ -198,7 +198,7 @@ impl Skyline {
         Ok(false)
     }
 
-    // The cases that the steps placed, on a pallet where a lying case is one of this way.
+    // The cases that the steps placed, as they lie on the pallet that is straight.
     pub(crate) fn spots(&self, alloc: Global, guide: &Guide) -> Result<Vec<Spot>, Memory> {
         let mut spots = Vec::new(alloc);
         for frame in &self.frames {
