@@ -1,12 +1,13 @@
 -- The line of a table's columns or rows is read exactly.
 use Rattle.std.proofs.Common.{◌≡◌, ℕ, zero, suc, ◌+◌, ◌≤◌, ◌<◌, List, [], ◌∷◌, ◌++◌, length, map, refl, sym, ap, subst, ◌∙◌, arith, true, false, Bool, leb, ltb, get_or, inl, inr}
 use Rattle.std.specs.Prelude.{decimal, ◌&&◌}
+use Rattle.std.specs.Int.{div_ceil}
 use Rattle.std.specs.List.{list_all, AllByRecursion}
 use Rattle.std.specs.List.Sorted.{IsStrictlyIncreasing}
 use Rattle.std.proofs.lemmas.Bool.{cases_Bool, leb-true, le-leb, ltb-true, lt-ltb}
 use Rattle.std.proofs.lemmas.List.{append-nil}
 use Rattle.std.proofs.lemmas.List.Sums.{AllPass-from_list_all, list_all-from_AllPass}
-use Rattle.line_tables.specs.Lines.{AreLines}
+use Rattle.line_tables.specs.Lines.{half, AreLines}
 use Rattle.texts.specs.Lines.{spaced}
 use Rattle.texts.specs.Words.{◌>>=◌, numbers_by}
 use Rattle.texts.proofs.Parsers.{Parses, both_true, parses_behind, parses_then, parses_as, parses_checked, AreNumbers, numbers_parse, numbers_solid, IsWord, words_spaced, ReadsLine, reads_line}
@@ -106,3 +107,6 @@ rising_tested ns false t = elim (cases_Bool (are_rising ns)) [
   | inl y ↦ t.1 (rising_is ns y) ∙ sym y
   | inr n ↦ sym n
 ]
+
+pub half_is : (n : ℕ) → div_ceil n 2 ≡ half n
+half_is n = omega arith

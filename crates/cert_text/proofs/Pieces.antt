@@ -51,8 +51,8 @@ rows_more start out new x_side i cells before now =
 -- what is left behind one row more
 pub rest_more : (x_side i : ℕ) (cells rest after : List ℕ) → rest ≡ drop (i * x_side) cells → after ≡ drop x_side rest → after ≡ drop ((i + 1) * x_side) cells
 rest_more x_side i cells rest after before now =
-    let n : x_side + i * x_side ≡ (i + 1) * x_side = omega arith in
-    now ∙ ap (λ (t : List ℕ). drop x_side t) before ∙ drop-drop (i * x_side) x_side cells ∙ ap (λ (k : ℕ). drop k cells) n
+    let n : i * x_side + x_side ≡ (i + 1) * x_side = omega arith in
+    now ∙ ap (λ (t : List ℕ). drop x_side t) before ∙ drop-drop x_side (i * x_side) cells ∙ ap (λ (k : ℕ). drop k cells) n
 
 -- the weights of a row, each behind a space
 abbrev pub behind_spaces : List ℕ → List ℕ
@@ -73,6 +73,11 @@ cells_more start out new x_side y_side y i cells lt row count before now =
     let room : suc y * x_side ≤ y_side * x_side = mul-le (suc y) x_side y_side x_side (omega arith) (omega arith) in
     let here : i < length (drop (y * x_side) cells) = omega (arith, length-drop (y * x_side) cells) in
     now ∙ ap (λ (t : List ℕ). t ++ 32 ∷ decimal (get_or cells (y * x_side + i) 0)) before ∙ append_assoc start (behind_spaces (take i xs)) (32 ∷ decimal (get_or cells (y * x_side + i) 0)) ∙ ap (λ (t : List ℕ). start ++ t) (ap (λ (n : ℕ). behind_spaces (take i xs) ++ 32 ∷ decimal n) (sym (get_or-drop (y * x_side) cells i 0)) ∙ sym (cell_more xs i here))
+
+-- ---- the first line of a table on lines
+
+pub counts_text : (k m : ℕ) (behind : List ℕ) → (codes "weighting lines " ++ decimal k) ++ ((codes " " ++ decimal m) ++ (codes "\n" ++ behind)) ≡ ended (spaced (codes "weighting" ∷ codes "lines" ∷ decimal k ∷ decimal m ∷ [])) ++ behind
+counts_text k m behind = simp append_assoc
 
 -- ---- marks
 

@@ -332,9 +332,10 @@ rows_plain form (weightings.Colour k c) f = tt
 rows_plain form (weightings.Comb p a r b) f = tt
 rows_plain form (weightings.Table t) f = row_lines_plain t.x_side t.y_side t.cells (table_cells form t.x_side t.y_side (weightings.Table t) (f, refl)).1
 rows_plain form (weightings.Lines t) f =
-    let s = lines_are form (length t.columns) (length t.rows) (weightings.Lines t) (f, refl) in
-    (plain_spaced (lines_words (codes "columns") t.columns) (lines_solid (codes "columns") t.columns refl s.columns.0.1),
-      (plain_spaced (lines_words (codes "rows") t.rows) (lines_solid (codes "rows") t.rows refl s.rows.0.1), row_lines_plain (half (length t.columns)) (half (length t.rows)) t.quarter s.quarter.1))
+    let s = lines_are form (length t.columns) (length t.rows) (weightings.Lines t) (f, refl) in (
+      plain_spaced (lines_words (codes "columns") t.columns) (lines_solid (codes "columns") t.columns refl s.columns.0.1),
+      (plain_spaced (lines_words (codes "rows") t.rows) (lines_solid (codes "rows") t.rows refl s.rows.0.1), row_lines_plain (half (length t.columns)) (half (length t.rows)) t.quarter s.quarter.1),
+    )
 
 pub weighting_plain : (form : Form) (w : Weighting) → GoodWeighting form w → AllByRecursion IsPlain (weighting_lines w)
 weighting_plain form w f =
