@@ -4,14 +4,14 @@ import re
 
 from orders import NUMBER_COLUMNS, RANGES
 from reports import MOVES, Refused, faults_of, rules_of
-from second_look import is_layer, right_stack, variants_of
+from second_look import crossings_of, is_layer, right_stack, variants_of
 
 LIMITS = [0, 1, 2, 39, 40, 64, 65, 99, 100, 101, 255, 256, 257, 400, 401, 402, 999, 1000, 1001, 1002, 1003, 3999, 4000, 4001,
           9999, 10000, 10001, 40000, 40001, 100000, 100001, 100000000, 100000001, 9999999999, 10000000000,
           2 ** 31 - 1, 2 ** 31, 2 ** 32 - 1, 2 ** 32, 2 ** 63, 2 ** 64 - 1, 2 ** 64]
 WORDS = [b"pallet-report 1", b"pallet-report 2", b"entry", b"id", b"order", b"reduced", b"count", b"bound", b"status optimal",
          b"status open", b"cert weighted", b"cert strip", b"cert given-area", b"weighting area", b"weighting colour", b"tree",
-         b"weighting comb", b"weighting table", b"row", b"cut", b"area", b"layers", b"layer", b"allowed", b"stack", b"unmet",
+         b"weighting comb", b"weighting table", b"weighting lines", b"columns", b"rows", b"row", b"cut", b"area", b"layers", b"layer", b"allowed", b"stack", b"unmet",
          b"rule", b"alone", b"together", b"end", b"done", b"refused", b"L", b"S", b"x", b"y", b"same", b"\"", b",", b"gap"]
 
 
@@ -297,7 +297,39 @@ def table_of(weighting, width, height):
     if weighting[0] == "comb":
         _, p, a, r, b = weighting
         return [[int(x % p == a and y % r == b) for x in range(width)] for y in range(height)]
+    if weighting[0] == "lines":
+        rows = [[0] * width for _ in range(height)]
+        for (x, y), weight in crossings_of(weighting).items():
+            if x < width and y < height:
+                rows[y][x] = weight
+        return rows
     return [[1] * width for _ in range(height)]
+
+
+def change_lines(rng, weighting, width, height):
+    """The same weights on lines, with a line moved, left out or repeated, or a weight changed; or one heavy column."""
+    if weighting[0] != "lines" or rng.random() < 0.1:
+        return ("lines", (rng.randrange(width),), (rng.randrange(height),), [(rng.choice([0, 1, 5]),)])
+    _, columns, rows, quarter = weighting
+    columns, rows, quarter = list(columns), list(rows), [list(row) for row in quarter]
+    kind = rng.randrange(6)
+    if kind == 0:
+        place = rng.randrange(len(columns))
+        columns[place] = clamp(near(rng, columns[place]), 0, 3999)
+    elif kind == 1:
+        place = rng.randrange(len(rows))
+        rows[place] = clamp(near(rng, rows[place]), 0, 3999)
+    elif kind == 2 and len(columns) > 1:
+        del columns[rng.randrange(len(columns))]
+    elif kind == 3:
+        columns, rows = rows, columns
+    elif kind == 4:
+        columns[-1] = rng.choice([width - 1, width, 3999])
+    for _ in range(rng.choice([0, 1, 3])):
+        row = rng.choice(quarter)
+        place = rng.randrange(len(row))
+        row[place] = clamp(rng.choice([near(rng, row[place]), 0, 100000]), 0, 100000)
+    return ("lines", tuple(columns), tuple(rows), [tuple(row) for row in quarter])
 
 
 def change_marks(rng, marks):
@@ -329,6 +361,8 @@ def change_weighting(rng, weighting, reduced):
             numbers[place] = max(1, numbers[place])
             numbers[place + 1] %= numbers[place]
         return (weighting[0], *numbers)
+    if weighting[0] == "lines" and rng.random() < 0.7 or rng.random() < 0.1:
+        return change_lines(rng, weighting, width, height)
     if width * height > 40000:
         return weighting
     rows = table_of(weighting, width, height)

@@ -191,7 +191,23 @@ def read_weighting(lines, form):
         if x_side * y_side > 40000:
             lines.fail()
         return ("table", [tuple(lines.numbers(b"row", [(0, 100000)] * x_side)) for _ in range(y_side)])
+    if kind == b"weighting lines" and form == 2:
+        counts = lines.numbers_in(line, kind, [(1, 4000)] * 2)
+        halves = [(count + 1) // 2 for count in counts]
+        if halves[0] * halves[1] > 40000:
+            lines.fail()
+        columns, rows = (read_rising(lines, word, count) for word, count in zip((b"columns", b"rows"), counts))
+        quarter = [tuple(lines.numbers(b"row", [(0, 100000)] * halves[0])) for _ in range(halves[1])]
+        return ("lines", columns, rows, quarter)
     return lines.fail()
+
+
+def read_rising(lines, word, count):
+    """So many numbers below 4,000 behind a word, each above the one before."""
+    numbers = tuple(lines.numbers(word, [(0, 3999)] * count))
+    if any(one >= other for one, other in zip(numbers, numbers[1:])):
+        lines.fail()
+    return numbers
 
 
 def read_cut(lines, place):
@@ -269,6 +285,11 @@ def cert_lines(cert):
     if weighting[0] == "table":
         rows = weighting[1]
         told = ["weighting table %d %d" % (len(rows[0]), len(rows))] + ["row " + " ".join(map(str, row)) for row in rows]
+    elif weighting[0] == "lines":
+        _, columns, rows, quarter = weighting
+        told = ["weighting lines %d %d" % (len(columns), len(rows))]
+        told += [" ".join(map(str, ("columns", *columns))), " ".join(map(str, ("rows", *rows)))]
+        told += ["row " + " ".join(map(str, row)) for row in quarter]
     else:
         told = [" ".join(map(str, ("weighting", *weighting)))]
     return ["cert weighted"] + told + ["tree " + cert[2]]

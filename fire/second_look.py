@@ -7,6 +7,7 @@ program and is meant to be plain: where the program is quick, this walks over ce
 
 import bisect
 import functools
+import itertools
 import sys
 
 from orders import sides_of
@@ -96,6 +97,13 @@ def first_difference(listed, right):
 
 # ---- the bound
 
+def crossings_of(weighting):
+    """What the cells weigh where a column crosses a row: of the lines from both ends, the same."""
+    _, columns, rows, quarter = weighting
+    return {(x, y): quarter[min(j, len(rows) - 1 - j)][min(i, len(columns) - 1 - i)]
+            for i, x in enumerate(columns) for j, y in enumerate(rows)}
+
+
 class Weights:
     """The weights of the cells of a pallet of X by Y, column by column."""
 
@@ -108,6 +116,11 @@ class Weights:
             for row in weighting[1]:
                 for sums, weight in zip(self.sums, row):
                     sums.append(sums[-1] + weight)
+        elif weighting[0] == "lines":
+            self.sums = [[0] * (self.height + 1) for _ in range(self.width)]
+            for (x, y), weight in crossings_of(weighting).items():
+                self.sums[x][y + 1] = weight
+            self.sums = [list(itertools.accumulate(column)) for column in self.sums]
 
     def below(self, x, height):
         """The weight of the cells of column x below a height."""
@@ -239,6 +252,8 @@ def is_lawful_weighting(weighting, reduced):
         return weighting[1] in sides and weighting[3] in sides
     if weighting[0] == "table":
         return (len(weighting[1][0]), len(weighting[1])) == reduced[:2]
+    if weighting[0] == "lines":
+        return weighting[1][-1] < reduced[0] and weighting[2][-1] < reduced[1]
     return True
 
 
@@ -281,8 +296,8 @@ def shows_bound(cert, given, reduced, bound):
     content = cert[1:]
     if cert[0] == "strip":
         content = tuple(cert[1])
-    elif cert[0] == "weighted" and cert[1][0] == "table":
-        content = (("table", tuple(cert[1][1])), cert[2])
+    elif cert[0] == "weighted" and cert[1][0] in ("table", "lines"):
+        content = ((*cert[1][:-1], tuple(cert[1][-1])), cert[2])
     return shows_bound_of(cert[0], content, given, reduced, bound)
 
 

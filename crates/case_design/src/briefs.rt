@@ -1,17 +1,14 @@
 // What a row of a designs file asks for.
-ghost use Rattle.std.specs.Prelude.{◌≡◌, ◌&&◌, nat_le, IfOk, IfErr};
-ghost use Rattle.std.specs.List.{list_all};
+ghost use Rattle.std.specs.Prelude.{◌≡◌, IfOk, IfErr};
 ghost use Rattle.csv.specs.Records.{fields_of};
-ghost use Rattle.order_reader.specs.Faults.{is_id as is_id_text, id_in};
+ghost use Rattle.order_reader.specs.Faults.{id_in};
 ghost use Rattle.case_design.specs.Briefs.{IsBriefOf};
 ghost use Rattle.case_design.specs.Designs.{HasFault};
 
 use crate::columns::{COLUMNS, first_outside, first_without_number, number_at};
 use crate::faults::DesignFault;
 use csv::ByteRecord;
-
-/// The most bytes of an id.
-const LONGEST_ID: usize = 40;
+use order_reader::is_id;
 
 /// The pallet, and the ranges of the case's sizes. All lengths share one unit.
 #[derive(Clone, Copy)]
@@ -36,20 +33,6 @@ pub(crate) fn id_of(row: &ByteRecord) -> &[u8]
         Some(id) => id,
         None => &[],
     }
-}
-
-// The id is not empty, not too long, and plain text.
-#[tactic(auto, unfolding(order_reader::specs::Faults::is_id))]
-fn is_id(id: &[u8]) -> bool
-    ensures { result ≡ is_id_text id.now }
-{
-    !id.is_empty() && id.len() <= LONGEST_ID && is_plain(id)
-}
-
-fn is_plain(id: &[u8]) -> bool
-    ensures { result ≡ list_all (λ b. nat_le 32 b && nat_le b 126) id.now }
-{
-    id.iter().all(|b| *b >= 32 && *b <= 126)
 }
 
 // The brief of a row, or the first of the tests of its fields that it fails.

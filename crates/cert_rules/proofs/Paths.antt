@@ -182,7 +182,7 @@ pub undo-small :
     (i : Inst) (w : Weighting) (rev fs : List Frame) (f : Frame) (rs : List Run) (weight : ℕ)
     → KeepsRuns i w rev rs weight
     → rev ≡ f ∷ fs
-    → weight + f.weight ≤ 4000000000
+    → weight + f.weight ≤ 16000000000
 undo-small i w rev fs f rs weight k e =
     let kept : KeepsRuns i w (f ∷ fs) rs weight = subst (λ (r : List Frame). KeepsRuns i w r rs weight) e k in
     (KeepsRuns-now i w fs (restored f rs) (weight + f.weight) kept.1).small
@@ -225,7 +225,7 @@ IsAfter-step i w m older rs weight block n v rest a wide t en ev eb cut whole =
     above-raised i (weight_of w) (state_of i older).heights (corner (state_of i older).heights) n (lowest (state_of i older).heights) v wide (omega arith) fits.up fits.high
     (λ k p q. flat_there (state_of i older).heights k p (omega arith)) in
     let all : weight ≡ total_weight (weight_above (weight_of w) (state_of i older).heights) i = a.weighs in
-    let most : weight ≤ 4000000000 = a.small in (
+    let most : weight ≤ 16000000000 = a.small in (
       omega arith,
       record {
         wide =
@@ -472,7 +472,7 @@ pub Keeps-start :
     → frames ≡ []
     → rs ≡ replicate (i.l_side + 1) (record { width = i.l_side; height = 0 })
     → weight ≡ total_weight (weight_of w) i
-    → weight ≤ 4000000000
+    → weight ≤ 16000000000
     → Keeps i w (reverse frames) rs weight 0
 Keeps-start i w frames rs weight none all whole small =
     let some : 1 ≤ i.l_side = i.sides.l_min in

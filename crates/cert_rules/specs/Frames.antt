@@ -26,7 +26,7 @@ pub record IsAfter (i : Inst) (w : Weighting) (steps : List Step) (rs : List Run
   pub wide : length rs ≡ i.l_side + 1
   pub leads : HasRuns rs (state_of i steps).heights 0 i.l_side
   pub weighs : weight ≡ above i (weight_of w) (state_of i steps)
-  pub small : weight ≤ 4000000000
+  pub small : weight ≤ 16000000000
 
 -- the runs and the weight are those of the steps of the frames, the newest first, and go back to those of the older ones
 abbrev pub KeepsRuns : Inst → Weighting → List Frame → List Run → ℕ → Type 0

@@ -49,5 +49,6 @@ pub fn block(inst: Inst, weighting: &Weighting, x: u32, y: u32, a: u32, b: u32) 
             b: row,
         } => count(x, a, p, column) * count(y, b, r, row),
         Weighting::Table(ref table) => u64::from(table.weight_from(x, y, a, b)),
+        Weighting::Lines(ref table) => table.weight_from(x, y, a, b),
     }
 }

@@ -138,6 +138,24 @@ fn run_along(
     most
 }
 
+// The greatest run along an axis that a straight cut can pass between two layers.
+pub(crate) fn longest_run(axis: Axis, lower: &Layer, upper: &Layer, gap: u32) -> u32
+    requires same { upper.now.inst ≡ lower.now.inst }
+    requires gap { IsGapOf lower.now.inst gap }
+    ensures greatest { IsGreatestRun axis lower.now.inst gap lower.now.spots upper.now.spots result }
+    ensures few { result ≤ 4000 }
+{
+    let mut spans = ArrayVec::new();
+    run_along(
+        axis,
+        lower.inst(),
+        gap,
+        lower.spots(),
+        upper.spots(),
+        &mut spans,
+    )
+}
+
 /// How many consecutive rows, and how many consecutive columns, one straight cut can pass.
 #[derive(Clone, Copy, PartialEq, Eq, Debug)]
 pub struct Runs {

@@ -5,8 +5,8 @@ ghost use Rattle.contact_rules.specs.Real.{IsGapOf};
 ghost use Rattle.contact_rules.specs.Shared.{supporters};
 ghost use Rattle.contact_rules.specs.Rules.{Touches, KeepsCuts, Meets, IsLawfulRule};
 
-use crate::axes::real_side_along;
-use crate::cuts::straight_run;
+use crate::axes::{other_axis, real_side_along};
+use crate::cuts::longest_run;
 use crate::shares::{contact, supports};
 use plan_geometry::{Axis, Layer, Spot};
 
@@ -61,6 +61,19 @@ fn all_supported(lower: &Layer, upper: &[Spot], gap: u32) -> bool
     true
 }
 
+// Whether each run at a line across the axis is at most this percentage of the other side.
+fn keeps_cuts_along(axis: Axis, percent: u32, lower: &Layer, upper: &Layer, gap: u32) -> bool
+    requires rule { percent ≤ 100 }
+    requires same { upper.now.inst ≡ lower.now.inst }
+    requires gap { IsGapOf lower.now.inst gap }
+    ensures { IsTrue result ↔ KeepsCuts axis lower.now.inst gap lower.now.spots upper.now.spots percent }
+{
+    let inst = lower.inst();
+    let run = longest_run(axis, lower, upper, gap);
+    run * 100 <= percent * real_side_along(other_axis(axis), inst, gap)
+}
+
+// The lines y are looked at only where those at x keep the rule.
 fn keeps_cuts(percent: u32, lower: &Layer, upper: &Layer, gap: u32) -> bool
     requires rule { percent ≤ 100 }
     requires same { upper.now.inst ≡ lower.now.inst }
@@ -69,11 +82,8 @@ fn keeps_cuts(percent: u32, lower: &Layer, upper: &Layer, gap: u32) -> bool
         ↔ (KeepsCuts X lower.now.inst gap lower.now.spots upper.now.spots percent
         × KeepsCuts Y lower.now.inst gap lower.now.spots upper.now.spots percent) }
 {
-    let inst = lower.inst();
-    let runs = straight_run(lower, upper, gap);
-    let rows = runs.rows * 100 <= percent * real_side_along(Axis::Y, inst, gap);
-    let columns = runs.columns * 100 <= percent * real_side_along(Axis::X, inst, gap);
-    rows && columns
+    keeps_cuts_along(Axis::X, percent, lower, upper, gap)
+        && keeps_cuts_along(Axis::Y, percent, lower, upper, gap)
 }
 
 /// Whether the two layers meet the rule. They are of one instance, whose numbers each contain the gap.

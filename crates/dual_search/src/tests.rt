@@ -1,4 +1,4 @@
-use crate::{MOST_ROUNDS, MOST_TURNS, dual, table_toward};
+use crate::{MOST_ROUNDS, dual};
 use plan_geometry::{Inst, case_fits};
 use plan_memory::Memory;
 use std::alloc::Global;
@@ -15,7 +15,7 @@ fn table(alloc: Global, inst: Inst, rounds: u32) -> Result<Option<WeightTable>, 
 }
 
 // The total, the least weight and the bound of the table, where it is one of the instance.
-fn measures(inst: Inst, table: WeightTable) -> Option<(u64, u64, Option<u32>)> {
+fn measures(inst: Inst, table: WeightTable) -> Option<(u64, u64, Option<u64>)> {
     let weighting = Weighting::Table(table);
     if case_fits(inst) && weighting.belongs(inst) {
         let total = weighting.total(inst);
@@ -77,29 +77,5 @@ fn eight_rounds(rt: HostRuntime) -> Result<(), Fail> {
 fn four_rounds(rt: HostRuntime) -> Result<(), Fail> {
     let inst = Inst::new(5, 5, 3, 3).ok_or("sides")?;
     assert!(rt; table(rt.alloc(), inst, 4)?.is_none());
-    Ok(())
-}
-
-// The bound of the table that is found.
-fn bound_toward(alloc: Global, inst: Inst, target: u32) -> Result<Option<u32>, Memory> {
-    if case_fits(inst) && inst.l_side <= 200 && inst.w_side <= 200 {
-        match table_toward(alloc, inst, target, MOST_TURNS)? {
-            Some(found) => match measures(inst, found) {
-                Some((_, _, bound)) => Ok(bound),
-                None => Ok(None),
-            },
-            None => Ok(None),
-        }
-    } else {
-        Ok(None)
-    }
-}
-
-#[test]
-fn smallest_open(rt: HostRuntime) -> Result<(), Fail> {
-    let inst = Inst::new(12, 11, 7, 2).ok_or("sides")?;
-    assert_eq!(rt; bound_toward(rt.alloc(), inst, 8)?, Some(8));
-    let inst = Inst::new(19, 12, 7, 2).ok_or("sides")?;
-    assert_eq!(rt; bound_toward(rt.alloc(), inst, 14)?, Some(14));
     Ok(())
 }

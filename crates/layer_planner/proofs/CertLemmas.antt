@@ -5,7 +5,7 @@ use Rattle.std.proofs.lemmas.Bool.{le-leb}
 use Rattle.plan_geometry.specs.declared.instances.Inst.{Inst}
 use Rattle.plan_geometry.specs.Weight.{total_weight, WeighsAtLeast}
 use Rattle.weightings.specs.declared.kinds.Weighting.{Weighting}
-use Rattle.weightings.specs.declared.kinds.Weighting.TheVariants.{Area, Colour, Comb, Table}
+use Rattle.weightings.specs.declared.kinds.Weighting.TheVariants.{Area, Colour, Comb, Table, Lines}
 use Rattle.weightings.specs.declared.certs.Mark.{Mark}
 use Rattle.weightings.specs.declared.certs.Mark.TheVariants.{Leaf}
 use Rattle.weightings.specs.Weighting.{weight_of, IsCaseSide, IsMember, IsLeastWeight, IsWeightBound}
@@ -85,6 +85,7 @@ member-text I (Comb p a r b) m =
     both _ _ (le-leb 1 p p_small.0) (both _ _ (le-leb p 4000 p_small.1) (both _ _ (le-leb (suc a) p (omega (arith, m.1)))
     (both _ _ (le-leb 1 r r_small.0) (both _ _ (le-leb r 4000 r_small.1) (le-leb (suc b) r (omega (arith, m.3)))))))
 member-text I (Table t) m = absurd m
+member-text I (Lines t) m = absurd m
 
 pub tree-text : (marks : List Mark) → 1 ≤ length marks → length marks ≤ 500000 → is_tree marks ≡ true
 tree-text marks some few = both _ _ (le-leb 1 (length marks) some) (le-leb (length marks) 500000 few)

@@ -9,18 +9,19 @@ use Rattle.plan_geometry.specs.declared.instances.Inst.{Inst}
 use Rattle.plan_geometry.specs.Layout.{IsLayout}
 use Rattle.plan_geometry.proofs.Counting.{bounded_by_weight}
 use Rattle.partitions.specs.Partitions.{SameSides}
+use Rattle.weightings.specs.declared.kinds.Weighting.{Weighting}
 use Rattle.weightings.specs.declared.kinds.Weighting.TheVariants.{Table}
 use Rattle.weightings.specs.declared.certs.Mark.TheVariants.{Leaf}
 use Rattle.weightings.specs.declared.certs.Cert.TheVariants as certs
 use Rattle.weightings.specs.Table.{CellTable, cell_of, IsCellTable}
-use Rattle.weightings.specs.Weighting.{IsWeightBound}
+use Rattle.weightings.specs.Weighting.{weight_of, IsLawfulWeighting, IsWeightBound}
 use Rattle.weightings.proofs.LeadSteps.{IsWeightBound-unique}
 use Rattle.dual_search.specs.Dual.{IsDual}
 use Rattle.dual_search.proofs.OneDual.{one_dual}
 use Rattle.cert_text.specs.declared.forms.Form.TheVariants.{Two}
 use Rattle.cert_text.specs.Ranges.{are_sides, are_weights, is_weighting}
 use Rattle.layer_planner.specs.declared.bounds.Known.{Known}
-use Rattle.layer_planner.specs.Quality.{IsAtMostDual}
+use Rattle.layer_planner.specs.Quality.{IsTable, IsAtMostDual}
 use Rattle.layer_planner.specs.Known.{IsKnown}
 use Rattle.layer_planner.proofs.CertLemmas.{both, leaf-refutes}
 
@@ -34,17 +35,17 @@ weights-text t h =
     both _ _ (eq-eqb (length t.cells) (t.y_side * t.x_side) (h.count ∙ mul_comm t.x_side t.y_side))
     (list_all-from_AllPass (λ w. leb w 100000) t.cells (λ i d l. le-leb _ _ (h.light i d l)))
 
-table-text : (I : Inst) (t : CellTable) → IsCellTable t → t.x_side ≡ I.l_side → t.y_side ≡ I.w_side → is_weighting Two (Table t) ≡ true
+pub table-text : (I : Inst) (t : CellTable) → IsCellTable t → t.x_side ≡ I.l_side → t.y_side ≡ I.w_side → is_weighting Two (Table t) ≡ true
 table-text I t h ex ey =
     let s = I.sides in
     both _ _ (sides-text t.x_side t.y_side h.some_x (omega (arith, ex, s)) h.some_y (omega (arith, ey, s)) h.few) (weights-text t h)
 
-pub table-known : (given reduced : Inst) (t : CellTable) (n : ℕ) → SameSides given reduced → IsCellTable t → t.x_side ≡ reduced.l_side → t.y_side ≡ reduced.w_side → IsWeightBound reduced (cell_of t) n
-    → IsKnown given reduced (record { bound = n; cert = certs.Weighted (Table t) (Leaf ∷ []) })
-table-known given reduced t n same h ex ey w = record {
-  accepted = record { same = same; holds = record { lawful = (ex, ey); refutation = record { least = w.least; is_least = w.is_least; refutes = leaf-refutes reduced (cell_of t) n w }; some = w.some } };
-  short = inr (tt, refl);
-  in_range = λ few. both _ _ (table-text reduced t h ex ey) refl;
+pub table-known : (given reduced : Inst) (g : Weighting) (n : ℕ) → SameSides given reduced → IsTable g → IsLawfulWeighting reduced g → is_weighting Two g ≡ true → IsWeightBound reduced (weight_of g) n
+    → IsKnown given reduced (record { bound = n; cert = certs.Weighted g (Leaf ∷ []) })
+table-known given reduced g n same table lawful text w = record {
+  accepted = record { same = same; holds = record { lawful = lawful; refutation = record { least = w.least; is_least = w.is_least; refutes = leaf-refutes reduced (weight_of g) n w }; some = w.some } };
+  short = inr (table, refl);
+  in_range = λ few. both _ _ text refl;
 }
 
 -- ---- the bounds of tables

@@ -21,6 +21,17 @@ pub record IsKnown (given reduced : Inst) (known : Known) : Type 0 where
 abbrev pub IsKeptOrLess : Known → Known → Type 0
 IsKeptOrLess old new = (new ≡ old) ⊎ (new.bound < old.bound)
 
+-- a layer of the reduced instance, and a bound with what shows it
+pub record IsFound (given reduced : Inst) (s : Settled) : Type 0 where
+  pub inst : s.layer.inst ≡ reduced
+  pub layer : IsLayer s.layer.inst s.layer.spots
+  pub known : IsKnown given reduced s.known
+
+-- the layer has no fewer cases than the old one, and the bound is no greater
+pub record IsNoWorse (old new : Settled) : Type 0 where
+  pub grown : length old.layer.spots ≤ length new.layer.spots
+  pub less : new.known.bound ≤ old.known.bound
+
 -- A layer of the reduced instance that has at least the cases of each pattern, and a bound with what shows it: the bound
 -- is no more than that one, and at most that of the game's table.
 pub record IsPlaced (given reduced : Inst) (most : ℕ) (s : Settled) : Type 0 where

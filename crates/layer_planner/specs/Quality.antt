@@ -6,7 +6,7 @@ use Rattle.plan_geometry.specs.Layout.{area_bound_of}
 use Rattle.minimum_size.specs.Reduced.{IsReduced}
 use Rattle.order_reader.specs.Instances.{IsGivenOf}
 use Rattle.weightings.specs.declared.kinds.Weighting.{Weighting}
-use Rattle.weightings.specs.declared.kinds.Weighting.TheVariants.{Area, Colour, Comb, Table}
+use Rattle.weightings.specs.declared.kinds.Weighting.TheVariants.{Area, Colour, Comb, Table, Lines}
 use Rattle.weightings.specs.declared.certs.Cert.{Cert}
 use Rattle.weightings.specs.declared.certs.Cert.TheVariants as certs
 use Rattle.weightings.specs.Weighting.{weight_of, IsMember, IsLeastWeight, IsWeightBound}
@@ -68,6 +68,7 @@ IsTable Area = ⊥
 IsTable (Colour k c) = ⊥
 IsTable (Comb p a r b) = ⊥
 IsTable (Table t) = ⊤
+IsTable (Lines t) = ⊤
 
 -- A certificate whose text is not long: a weighting of the family with no more marks than states are visited, or a
 -- table with one mark; the cuts of a strip; or the area.

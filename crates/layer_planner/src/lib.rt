@@ -2,6 +2,7 @@
 #![tactic(auto)]
 
 mod bounds;
+mod guides;
 mod listing;
 mod planning;
 mod search;

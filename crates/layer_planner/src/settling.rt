@@ -6,8 +6,9 @@ ghost use Rattle.layer_planner.specs.Known.{IsKnown, IsPlaced, IsSettled};
 
 use crate::bounds::{Known, least_known};
 use crate::search::{Searched, search};
-use crate::tables::{or_dual, or_table_toward};
-use dual_search::MOST_TURNS;
+use crate::guides::{Limits, guided, start_search};
+use crate::tables::or_dual;
+use line_search::MOST_TURNS;
 use layer_patterns::{layer_by_blocks, layer_by_regions};
 use plan_geometry::{Inst, Layer};
 use plan_memory::Memory;
@@ -21,11 +22,22 @@ pub struct Settled {
     pub known: Known,
 }
 
-// How many turns the first search of tables makes: nearly every order that a table closes is closed by then.
-const FIRST_TURNS: u32 = 2_400;
+// How far tables are searched and walks are led before L-regions are tried: nearly every order that a table closes is closed
+// by then, and most cases that are missing are found.
+const FIRST_LIMITS: Limits = Limits {
+    turns: 400,
+    states: 20_000,
+};
 
-// The layer of the best pattern, and the bound so far or a lesser one that a table shows. A short search of tables comes
-// before that of L-regions, which takes longer, and a long one behind it.
+// How far they go in the end.
+const LAST_LIMITS: Limits = Limits {
+    turns: MOST_TURNS,
+    states: 500_000,
+};
+
+// The layer of the best pattern, or a better one to which a table leads, and the bound so far, or a lesser one that a table
+// shows. Each engine runs where the layer has fewer cases than the bound: blocks; a short search of tables on few lines,
+// with short walks; L-regions, which take longer; the search of tables to its end, with long walks; the game.
 fn place(alloc: Global, given: Inst, reduced: Inst, known: Known) -> Result<Settled, Memory>
     requires same { SameSides given reduced }
     requires fits { CaseFits reduced }
@@ -34,11 +46,20 @@ fn place(alloc: Global, given: Inst, reduced: Inst, known: Known) -> Result<Sett
     ensures { IfOk result (λ s. IsPlaced given reduced known.bound s) }
 {
     let layer = layer_by_blocks(alloc, reduced, known.bound)?;
-    let known = or_table_toward(alloc, given, reduced, known, &layer, FIRST_TURNS)?;
-    let layer = layer_by_regions(alloc, reduced, known.bound, layer)?;
-    let known = or_table_toward(alloc, given, reduced, known, &layer, MOST_TURNS)?;
-    let known = or_dual(alloc, given, reduced, known, &layer)?;
-    Ok(Settled { layer, known })
+    let by_blocks = Settled { layer, known };
+    let mut search = start_search(alloc, reduced, &by_blocks)?;
+    let first = guided(alloc, given, reduced, &mut search, FIRST_LIMITS, by_blocks)?;
+    let layer = layer_by_regions(alloc, reduced, first.known.bound, first.layer)?;
+    let by_regions = Settled {
+        layer,
+        known: first.known,
+    };
+    let last = guided(alloc, given, reduced, &mut search, LAST_LIMITS, by_regions)?;
+    let known = or_dual(alloc, given, reduced, last.known, &last.layer)?;
+    Ok(Settled {
+        layer: last.layer,
+        known,
+    })
 }
 
 /// The layer of the best pattern, and then of the search, and the least bound: that of the search where it ends, else the

@@ -169,8 +169,8 @@ impl LineTable {
         }
     }
 
-    // The weight of the crossings of the first i columns and the first j rows.
-    fn first_weight(&self, i: usize, j: usize) -> u64
+    /// The weight of the crossings of the first i columns and the first j rows, which is kept.
+    pub fn first_weight(&self, i: usize, j: usize) -> u64
         requires column { i ≤ length self.now.columns }
         requires row { j ≤ length self.now.rows }
         ensures { result ≡ first_weights self.now i j }

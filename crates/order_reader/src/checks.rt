@@ -23,9 +23,9 @@ const GREATEST_SIDE: u64 = 4000;
 /// The widest gap between cases.
 const GREATEST_GAP: u64 = 100;
 
-// The id is not empty, not too long, and plain text.
+/// Whether the bytes are an id: 1 to 40 of them, each from 32 to 126.
 #[tactic(auto, unfolding(crate::specs::Faults::is_id))]
-pub(crate) fn is_id(id: &[u8]) -> bool
+pub fn is_id(id: &[u8]) -> bool
     ensures { result ≡ is_id_text id.now }
 {
     !id.is_empty() && id.len() <= LONGEST_ID && is_plain(id)

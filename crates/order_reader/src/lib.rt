@@ -9,6 +9,7 @@ mod orders;
 mod records;
 mod rows;
 
+pub use checks::is_id;
 pub use faults::{OrderFail, RowFault};
 pub use fields::{Field, all_fields};
 pub use orders::Order;

@@ -30,6 +30,7 @@ weighting_new weightings.Area f = refl
 weighting_new (weightings.Colour k c) f = f
 weighting_new (weightings.Comb p a r b) f = f
 weighting_new (weightings.Table t) f = absurd cc
+weighting_new (weightings.Lines t) f = absurd cc
 
 cert_new : (c : Cert) → InRange One c → InRange Two c
 cert_new (certs.Weighted w t) f =

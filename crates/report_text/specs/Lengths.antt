@@ -13,6 +13,7 @@ IsTableOrTree (certs.Weighted weightings.Area tree) = ⊤
 IsTableOrTree (certs.Weighted (weightings.Colour k c) tree) = ⊤
 IsTableOrTree (certs.Weighted (weightings.Comb p a r b) tree) = ⊤
 IsTableOrTree (certs.Weighted (weightings.Table t) tree) = length tree ≡ 1
+IsTableOrTree (certs.Weighted (weightings.Lines t) tree) = length tree ≡ 1
 IsTableOrTree (certs.Strip cuts) = ⊤
 IsTableOrTree certs.GivenArea = ⊤
 

@@ -1,12 +1,10 @@
-ghost use Rattle.std.specs.Prelude.{◌≡◌, ◌&&◌, nat_le, option_map};
-ghost use Rattle.std.specs.List.{list_all};
+ghost use Rattle.std.specs.Prelude.{◌≡◌, option_map};
 ghost use Rattle.texts.specs.Gives.{GivesLine};
-ghost use Rattle.order_reader.specs.Faults.{is_id as is_id_value};
 ghost use Rattle.report_text.specs.Words.{second_of, id_of_line, id_if};
 
 use crate::faults::fault_line;
 use cert_text::Form;
-use order_reader::RowFault;
+use order_reader::{RowFault, is_id};
 use std::alloc::Global;
 use std::marker::Model;
 use texts::LineStop;
@@ -46,20 +44,6 @@ impl Id {
 pub enum Second {
     Id(Id),
     Fault(RowFault),
-}
-
-fn are_id_bytes(bytes: &[u8]) -> bool
-    ensures { result ≡ list_all (λ b. nat_le 32 b && nat_le b 126) bytes.now }
-{
-    bytes.iter().all(|b| 32 <= *b && *b <= 126)
-}
-
-// Whether the bytes are an id.
-#[tactic(auto, unfolding(order_reader::specs::Faults::is_id))]
-fn is_id(bytes: &[u8]) -> bool
-    ensures { result ≡ is_id_value bytes.now }
-{
-    !bytes.is_empty() && (bytes.len() <= 40 && are_id_bytes(bytes))
 }
 
 // What stands behind the first word of the line of an id.

@@ -9,7 +9,7 @@ use Rattle.std.proofs.lemmas.Nat.{mul-add-lt, div-add-mod', mod_below, div_below
 use Rattle.plan_geometry.specs.declared.instances.Inst.{Inst}
 use Rattle.plan_geometry.proofs.GridSteps.{factor-some}
 use Rattle.weightings.specs.declared.kinds.Weighting.{Weighting}
-use Rattle.weightings.specs.declared.kinds.Weighting.TheVariants.{Area, Colour, Comb, Table}
+use Rattle.weightings.specs.declared.kinds.Weighting.TheVariants.{Area, Colour, Comb, Table, Lines}
 use Rattle.weightings.specs.Weighting.{weight_of, IsMember, IsCaseSide, IsWeightBound}
 use Rattle.weightings.specs.Lead.{place_of, combs_before, IsLead}
 use Rattle.weightings.specs.Family.{colours, combs, family, IsFirstLeast}
@@ -195,6 +195,7 @@ family-has : (I : Inst) (g : Weighting) → IsMember I g → get_or (family I) (
 unfolding family
 family-has I Area m = refl
 family-has I (Table t) m = absurd m
+family-has I (Lines t) m = absurd m
 family-has I (Colour k c) m =
     let l = I.long in
     let w = I.short in

@@ -7,7 +7,7 @@ use Rattle.plan_geometry.specs.Layout.{area_bound_of, CaseFits}
 use Rattle.plan_geometry.specs.Weight.{total_weight}
 use Rattle.plan_geometry.proofs.Counting.{total_weight-one}
 use Rattle.weightings.specs.declared.kinds.Weighting.{Weighting}
-use Rattle.weightings.specs.declared.kinds.Weighting.TheVariants.{Area, Colour, Comb, Table}
+use Rattle.weightings.specs.declared.kinds.Weighting.TheVariants.{Area, Colour, Comb, Table, Lines}
 use Rattle.weightings.specs.Weighting.{weight_of, IsMember, IsLawfulWeighting, IsCaseSide, IsLeastWeight, IsWeightBound}
 use Rattle.weightings.specs.Lead.{place_of, IsLead, IsBestBefore}
 use Rattle.weightings.proofs.WeightSteps.{IsLeastWeight-area}
@@ -159,9 +159,13 @@ place-same I (Comb p a r b) Area g h e = absurd (omega arith)
 place-same I (Comb p a r b) (Colour l d) g h e = absurd (omega (arith, colour-lt I l d h))
 place-same I (Comb p a r b) (Comb q c s d) g h e = comb-same I p a r b q c s d g h e
 place-same I (Table t) h g m e = absurd g
+place-same I (Lines t) h g m e = absurd g
 place-same I Area (Table t) g h e = absurd h
+place-same I Area (Lines t) g h e = absurd h
 place-same I (Colour k c) (Table t) g h e = absurd h
+place-same I (Colour k c) (Lines t) g h e = absurd h
 place-same I (Comb p a r b) (Table t) g h e = absurd h
+place-same I (Comb p a r b) (Lines t) g h e = absurd h
 
 -- ---- one more member
 
@@ -271,6 +275,7 @@ best-jumps I g b l best =
     low : (J : Inst) (h : Weighting) → J.long ≤ J.short → IsMember J h → place_of J h < 1 + J.long + J.short → place_of J h < 1 + J.long
     low J Area l m p = omega (arith, J.sides.short_min, J.sides.ordered)
     low J (Table t) l m p = absurd m
+    low J (Lines t) l m p = absurd m
     low J (Colour k c) l m p =
         elim (side-cases J k m.0) [
           | inl x ↦ rw x.1 (omega (arith, m.1, x.0))
@@ -282,6 +287,7 @@ best-jumps I g b l best =
 pub place-lt : (I : Inst) (h : Weighting) → IsMember I h → place_of I h < 1 + I.long + I.short + (I.long * (I.long + I.short) + I.short * (I.long + I.short))
 place-lt I Area m = omega arith
 place-lt I (Table t) m = absurd m
+place-lt I (Lines t) m = absurd m
 place-lt I (Colour k c) m = omega (arith, colour-lt I k c m)
 place-lt I (Comb p a r b) m =
     let lt : row_place I p a r b < p * (I.long + I.short) = row_place-lt I p a r b m.1 m.2 m.3 in
@@ -309,6 +315,7 @@ IsLead-all I g b best =
 place-lt_square : (I : Inst) (h : Weighting) → I.long ≤ I.short → IsMember I h → place_of I h < 1 + I.long + I.short + I.long * I.long
 place-lt_square I Area l m = omega arith
 place-lt_square I (Table t) l m = absurd m
+place-lt_square I (Lines t) l m = absurd m
 place-lt_square I (Colour k c) l m = omega (arith, colour-lt I k c m)
 place-lt_square I (Comb p a r b) l m =
     let lt : a * r + b < r * p = mul-add-lt a r b p m.1 m.3 in
@@ -343,3 +350,4 @@ IsMember-lawful I Area m = m
 IsMember-lawful I (Colour k c) m = m
 IsMember-lawful I (Comb p a r b) m = m
 IsMember-lawful I (Table t) m = absurd m
+IsMember-lawful I (Lines t) m = absurd m

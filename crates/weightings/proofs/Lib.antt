@@ -2,6 +2,7 @@ pub mod Counts
 pub mod LineSteps
 pub mod Blocks
 pub mod WeightSteps
+pub mod LineLeast
 pub mod LeadSteps
 pub mod Colours
 pub mod Rarest

@@ -1,7 +1,7 @@
 use Rattle.std.specs.Prelude.{◌≡◌, ℕ, ◌+◌, ◌-◌, ◌*◌, ◌/◌, max, ◌<◌, ◌≤◌, ◌⊎◌, ◌==◌, if◌then◌else◌}
 use Rattle.plan_geometry.specs.declared.instances.Inst.{Inst}
 use Rattle.weightings.specs.declared.kinds.Weighting.{Weighting}
-use Rattle.weightings.specs.declared.kinds.Weighting.TheVariants.{Area, Colour, Comb, Table}
+use Rattle.weightings.specs.declared.kinds.Weighting.TheVariants.{Area, Colour, Comb, Table, Lines}
 use Rattle.weightings.specs.Weighting.{weight_of, IsMember, IsWeightBound, colour_loss}
 
 -- how many combs come before those of the pair (p, r)
@@ -16,6 +16,7 @@ place_of I Area = 0
 place_of I (Colour k c) = 1 + (if k == I.long then 0 else I.long) + c
 place_of I (Comb p a r b) = 1 + I.long + I.short + combs_before I p r + a * r + b
 place_of I (Table t) = 0
+place_of I (Lines t) = 0
 
 -- a member with a bound, which is below the bound of each other member, or as low and earlier in the order
 pub record IsLead (I : Inst) (g : Weighting) : Type 0 where

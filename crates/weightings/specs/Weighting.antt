@@ -4,8 +4,9 @@ use Rattle.plan_geometry.specs.declared.spots.Way.{Way}
 use Rattle.plan_geometry.specs.declared.instances.Inst.{Inst}
 use Rattle.plan_geometry.specs.Layout.{IsInside, IsLawfulWay}
 use Rattle.plan_geometry.specs.Weight.{spot_weight, total_weight, WeighsAtLeast}
+use Rattle.line_tables.specs.Lines.{weight_at, BelongsTo}
 use Rattle.weightings.specs.declared.kinds.Weighting.{Weighting}
-use Rattle.weightings.specs.declared.kinds.Weighting.TheVariants.{Area, Colour, Comb, Table}
+use Rattle.weightings.specs.declared.kinds.Weighting.TheVariants.{Area, Colour, Comb, Table, Lines}
 use Rattle.weightings.specs.Line.{one_if}
 use Rattle.weightings.specs.Table.{cell_of}
 
@@ -15,13 +16,15 @@ weight_of Area x y = 1
 weight_of (Colour k c) x y = one_if ((x + y) % k == c)
 weight_of (Comb p a r b) x y = one_if ((x % p == a) && (y % r == b))
 weight_of (Table t) x y = cell_of t x y
+weight_of (Lines t) x y = weight_at t x y
 
--- the weighting has a weight for this cell: no divisor is 0, and a table has the cell
+-- the weighting has a weight for this cell: no divisor is 0, and a table of all cells has the cell
 abbrev pub HasCell : Weighting → ℕ → ℕ → Type 0
 HasCell Area x y = ⊤
 HasCell (Colour k c) x y = 1 ≤ k
 HasCell (Comb p a r b) x y = (1 ≤ p) × (1 ≤ r)
 HasCell (Table t) x y = (x < t.x_side) × (y < t.y_side)
+HasCell (Lines t) x y = ⊤
 
 -- k is a side of the case
 abbrev pub IsCaseSide : Inst → ℕ → Type 0
@@ -33,13 +36,16 @@ IsMember I Area = ⊤
 IsMember I (Colour k c) = IsCaseSide I k × (c < k)
 IsMember I (Comb p a r b) = IsCaseSide I p × (a < p) × IsCaseSide I r × (b < r)
 IsMember I (Table t) = ⊥
+IsMember I (Lines t) = ⊥
 
--- the weighting is in the family of the instance, or is a table that has the pallet's sides
+-- the weighting is in the family of the instance, or is a table that has the pallet's sides, or one whose lines the pallet
+-- has
 abbrev pub IsLawfulWeighting : Inst → Weighting → Type 0
 IsLawfulWeighting I Area = IsMember I Area
 IsLawfulWeighting I (Colour k c) = IsMember I (Colour k c)
 IsLawfulWeighting I (Comb p a r b) = IsMember I (Comb p a r b)
 IsLawfulWeighting I (Table t) = (t.x_side ≡ I.l_side) × (t.y_side ≡ I.w_side)
+IsLawfulWeighting I (Lines t) = BelongsTo t I
 
 -- q is the least weight of a case of this way inside the pallet
 pub record IsLeastOfWay (I : Inst) (g : ℕ → ℕ → ℕ) (w : Way) (q : ℕ) : Type 0 where

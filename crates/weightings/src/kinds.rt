@@ -1,4 +1,5 @@
 use crate::tables::WeightTable;
+use line_tables::LineTable;
 
 /// A weight for each cell of the pallet, whose cells are the unit squares (x, y) from (0, 0) on. The colours are those
 /// of Barnes 1979.
@@ -12,4 +13,6 @@ pub enum Weighting {
     Comb { p: u32, a: u32, r: u32, b: u32 },
     /// What the table says, cell by cell.
     Table(WeightTable),
+    /// What the table says where one of its columns crosses one of its rows, else 0.
+    Lines(LineTable),
 }

@@ -11,7 +11,7 @@ use plan_geometry::{Inst, area_bound};
 #[derive(Drop)]
 struct Best {
     weighting: Weighting,
-    bound: u32,
+    bound: u64,
 }
 
 // The area alone, which comes first.
@@ -21,7 +21,7 @@ fn start(inst: Inst) -> Best
 {
     Best {
         weighting: Weighting::Area,
-        bound: area_bound(inst),
+        bound: u64::from(area_bound(inst)),
     }
 }
 

@@ -69,10 +69,15 @@ impl Weighting {
                 let table = table.copied(alloc)?;
                 Ok(Weighting::Table(table))
             }
+            Weighting::Lines(ref table) => {
+                let table = table.copied(alloc)?;
+                Ok(Weighting::Lines(table))
+            }
         }
     }
 
-    /// Whether the weighting is in the family of the instance, or is a table that has the pallet's sides.
+    /// Whether the weighting is in the family of the instance, or is a table that has the pallet's sides, or one whose
+    /// lines the pallet has.
     pub fn belongs(&self, inst: Inst) -> bool
         ensures { IsTrue result ↔ IsLawfulWeighting inst self.now }
     {
@@ -88,6 +93,7 @@ impl Weighting {
             Weighting::Table(ref table) => {
                 table.x_side() == inst.l_side && table.y_side() == inst.w_side
             }
+            Weighting::Lines(ref table) => table.belongs(inst),
         }
     }
 
@@ -107,6 +113,7 @@ impl Weighting {
             }
             Weighting::Comb { p, a, r, b } => { if x % p == a && y % r == b { 1 } else { 0 } }
             Weighting::Table(ref table) => u64::from(table.cell(x, y)),
+            Weighting::Lines(ref table) => table.cell(x, y),
         }
     }
 
@@ -114,7 +121,7 @@ impl Weighting {
     pub fn total(&self, inst: Inst) -> u64
         requires { IsLawfulWeighting inst self.now }
         ensures value { result ≡ total_weight (weight_of self.now) inst }
-        ensures small { result ≤ 4000000000 }
+        ensures small { result ≤ 16000000000 }
     {
         match *self {
             Weighting::Area => u64::from(inst.l_side) * u64::from(inst.w_side),
@@ -123,6 +130,7 @@ impl Weighting {
                 count(0, inst.l_side, p, a) * count(0, inst.w_side, r, b)
             }
             Weighting::Table(ref table) => u64::from(table.weight_before(inst.l_side, inst.w_side)),
+            Weighting::Lines(ref table) => table.total(),
         }
     }
 
@@ -137,6 +145,7 @@ impl Weighting {
             Weighting::Colour { k, .. } => u64::from(inst.long + inst.short - k),
             Weighting::Comb { p, a, r, b } => comb_least(inst, way, p, a, r, b),
             Weighting::Table(ref table) => table_least(inst, way, table),
+            Weighting::Lines(ref table) => table.least_of_way(inst, way),
         }
     }
 
@@ -162,19 +171,20 @@ impl Weighting {
     }
 
     /// The total divided by the least weight: no layout has more cases. None exactly where a case may weigh
-    /// nothing.
-    pub fn bound(&self, inst: Inst) -> Option<u32>
+    /// nothing. It is not cut off at 32 bits: the total of a table on lines may be 16,000,000,000.
+    pub fn bound(&self, inst: Inst) -> Option<u64>
         requires member { IsLawfulWeighting inst self.now }
         requires fits { CaseFits inst }
         ensures none { IfNone result (IsLeastWeight inst (weight_of self.now) 0) }
         ensures value { IfSome result (λ n. IsWeightBound inst (weight_of self.now) n) }
+        ensures small { IfSome result (λ n. n ≤ 16000000000) }
         ensures bounds { IfSome result (λ n. IsBounded inst n) }
     {
         let least = self.least(inst);
         if least == 0 {
             None
         } else {
-            Some(weight_bound(self.total(inst), least) as u32)
+            Some(weight_bound(self.total(inst), least))
         }
     }
 }

@@ -1,11 +1,12 @@
 use crate::{Cert, Mark, Marks, StripCert, StripCut, WeightTable, Weighting, lead};
+use line_tables::LineTable;
 use plan_geometry::{Inst, area_bound, case_fits};
 use plan_memory::Memory;
 use std::alloc::Global;
 use std::test::Fail;
 
 // What a weighting gives on a pallet on which a case fits: the total, the least weight, the bound.
-fn measures(weighting: &Weighting, inst: Inst) -> Option<(u64, u64, Option<u32>)> {
+fn measures(weighting: &Weighting, inst: Inst) -> Option<(u64, u64, Option<u64>)> {
     if !weighting.belongs(inst) || !case_fits(inst) {
         return None;
     }
@@ -83,6 +84,37 @@ fn tables(rt: HostRuntime) -> Result<(), Fail> {
     let four = Weighting::Table(four);
     assert_eq!(rt; measures(&four, inst), Some((8, 4, Some(2))));
     assert!(rt; heavy_cell(rt.alloc(), 100001)?.is_none());
+    Ok(())
+}
+
+// The table of one column, one row and one weight.
+fn one_cell(
+    alloc: Global,
+    column: u32,
+    row: u32,
+    weight: u32,
+) -> Result<Option<LineTable>, Memory> {
+    let columns = Vec::from_slice(alloc, [column].as_slice())?;
+    let rows = Vec::from_slice(alloc, [row].as_slice())?;
+    let quarter = Vec::from_slice(alloc, [weight].as_slice())?;
+    LineTable::new(alloc, columns, rows, quarter)
+}
+
+// Each case of three by three covers the middle of five by five cells, and no other cell is covered by all.
+#[test]
+fn tables_on_lines(rt: HostRuntime) -> Result<(), Fail> {
+    let inst = Inst::new(5, 5, 3, 3).ok_or("sides")?;
+    let middle = one_cell(rt.alloc(), 2, 2, 7)?.ok_or("table")?;
+    let middle = Weighting::Lines(middle).copied(rt.alloc())?;
+    assert_eq!(rt; measures(&middle, inst), Some((7, 7, Some(1))));
+    assert_eq!(rt; (middle.cell(2, 2), middle.cell(2, 1)), (7, 0));
+    let beside = one_cell(rt.alloc(), 1, 2, 7)?.ok_or("table")?;
+    assert_eq!(rt;
+        measures(&Weighting::Lines(beside), inst),
+        Some((7, 0, None))
+    );
+    let beyond = one_cell(rt.alloc(), 5, 2, 7)?.ok_or("table")?;
+    assert_eq!(rt; measures(&Weighting::Lines(beyond), inst), None);
     Ok(())
 }
 

@@ -19,7 +19,7 @@ overflow_add-result c =
     length-steps_of (reverse c.self.inside.frames.items) in
     let most : length (reverse c.self.inside.frames.items) ≤ 500000 = c.self.invariant.few in
     let cases : c.self.inside.cases ≡ length (state_of c.self.inside.inst (steps_of (reverse c.self.inside.frames.items))).spots = c.self.invariant.cases in
-    let small : c.self.inside.weight ≤ 4000000000 = now.small in
+    let small : c.self.inside.weight ≤ 16000000000 = now.small in
     let less : c.self.inside.weight / c.self.inside.least ≤ c.self.inside.weight = div-le_self c.self.inside.weight c.self.inside.least in
     omega arith
 
