@@ -1,6 +1,6 @@
 -- What `floor` wrote is judged to be right.
-use Rattle.std.proofs.Common.{◌≡◌, ◌<◌, ◌∙◌, ℕ, ◌+◌, ◌*◌, List, [], ◌∷◌, ◌++◌, length, arith, refl, sym, subst, ap}
-use Rattle.std.specs.Prelude.{◌||◌, Bool, true, false, map, not, ⊤}
+use Rattle.std.proofs.Common.{◌≡◌, ◌<◌, ◌∙◌, ℕ, ◌+◌, List, [], ◌∷◌, ◌++◌, length, arith, refl, sym, subst, ap}
+use Rattle.std.specs.Prelude.{◌||◌, Bool, false, map, ⊤}
 use Rattle.std.specs.List.{All, enumerate_from, flat_map}
 use Rattle.std.proofs.lemmas.List.Elements.{All-head, All-tail}
 use Rattle.texts.specs.Lines.{text_of}
@@ -15,7 +15,7 @@ use Rattle.plan_entries.specs.declared.entries.Entry.TheVariants.{Planned, Refus
 use Rattle.plan_mode.specs.Entries.{IsEntryOf, AreEntriesFrom}
 use Rattle.plan_mode.specs.Accepted.{verdict_due, IsAcceptedEntry}
 use Rattle.check_mode.specs.Verdicts.{is_no}
-use Rattle.truck_floor.specs.FloorRows.{both_rows, rows_of_floors}
+use Rattle.truck_floor.specs.FloorRows.{both_rows}
 use Rattle.truck_floor.specs.Laws.{FloorsFitTheirLoads}
 use Rattle.floor_text.specs.declared.rows.FloorRow.{FloorRow}
 use Rattle.floor_text.specs.Text.{entries_in, floor_lines, floor_text, IsFloor, IsFloorIn, HasShortReport}
@@ -23,7 +23,7 @@ use Rattle.floor_text.proofs.Lengths.{entries_count}
 use Rattle.floor_mode.specs.declared.judging.RowJudgement.{RowJudgement}
 use Rattle.floor_mode.specs.Totals.{GoTogether}
 use Rattle.floor_mode.specs.Planning.{HasItsTotal}
-use Rattle.floor_mode.specs.Judging.{IsRightRow, IsJudgement, AreJudgements, any_wrong, FloorJudged, judged_text}
+use Rattle.floor_mode.specs.Judging.{IsRightRow, AreJudgements, any_wrong, FloorJudged, judged_text}
 use Rattle.floor_mode.specs.Laws.{judgement_due, FloorsAreAccepted}
 use Rattle.floor_mode.proofs.JudgedRows.{one-list}
 

@@ -1,9 +1,9 @@
 -- The rows of a floors file are pairs.
-use Rattle.std.proofs.Common.{◌≡◌, ◌∙◌, ℕ, ◌+◌, ◌*◌, ◌/◌, ◌≤◌, List, [], ◌∷◌, ◌++◌, length, arith, refl, sym, subst, ap}
+use Rattle.std.proofs.Common.{◌≡◌, ◌∙◌, ℕ, ◌+◌, ◌*◌, ◌/◌, ◌≤◌, List, [], ◌∷◌, length, arith, refl, ap}
 use Rattle.std.specs.List.{enumerate_from, flat_map}
 use Rattle.order_reader.specs.Records.{Fields}
 use Rattle.order_reader.specs.declared.rows.Row.{Row}
-use Rattle.truck_floor.specs.FloorRows.{both_rows, rows_of_floors}
+use Rattle.truck_floor.specs.FloorRows.{both_rows}
 use Rattle.floor_mode.specs.FloorsFiles.{HasFloors}
 
 pairs-from : (k : ℕ) (floors : List Fields) → length (flat_map (λ (p : ℕ × Fields). both_rows p.0 p.1) (enumerate_from k floors)) ≡ 2 * length floors

@@ -1,8 +1,8 @@
 -- Judgements of rows, one after another, and their lines.
-use Rattle.std.proofs.Common.{◌≡◌, ℕ, zero, suc, ◌+◌, ◌*◌, ◌≤◌, ◌<◌, List, [], ◌∷◌, ◌++◌, length, take, drop, slice_get, Some, ap, refl, sym, subst, ◌∙◌, arith, append_assoc, eqb-true, eq-eqb}
+use Rattle.std.proofs.Common.{◌≡◌, ℕ, zero, suc, ◌*◌, List, [], ◌∷◌, ◌++◌, length, take, drop, slice_get, Some, ap, refl, sym, subst, ◌∙◌, arith, append_assoc, eqb-true, eq-eqb}
 use Rattle.std.specs.Prelude.{Bool, true, false, ◌==◌, ◌||◌, ◌↔◌}
 use Rattle.std.proofs.Math.Bool.{or-false}
-use Rattle.std.proofs.lemmas.List.{append-nil, take_all, take_at, length-append}
+use Rattle.std.proofs.lemmas.List.{append-nil, take_all, take_at}
 use Rattle.std.proofs.lemmas.List.Folds.{list_any-append}
 use Rattle.std.proofs.lemmas.Option.{same_Some}
 use Rattle.run_parts.specs.Written.{IsPrefixOf}

@@ -1,6 +1,6 @@
 -- Rows that were planned, one after another.
-use Rattle.std.proofs.Common.{◌≡◌, ◌∙◌, ℕ, ◌+◌, ◌*◌, ◌<◌, ◌≤◌, List, [], ◌∷◌, ◌++◌, length, take, get_or, arith, refl, sym, subst, ap, append_assoc}
-use Rattle.std.specs.Prelude.{◌||◌, Bool, false}
+use Rattle.std.proofs.Common.{◌≡◌, ◌∙◌, ℕ, ◌+◌, ◌*◌, ◌≤◌, List, [], ◌∷◌, ◌++◌, length, take, get_or, arith, refl, sym, subst, ap, append_assoc}
+use Rattle.std.specs.Prelude.{◌||◌}
 use Rattle.std.specs.List.{All}
 use Rattle.std.proofs.lemmas.List.{append-nil, take_all, take_more, length-take-le}
 use Rattle.std.proofs.lemmas.List.Elements.{All-nil, All-cons, All-head, All-tail}
@@ -11,7 +11,7 @@ use Rattle.order_reader.specs.declared.rows.Row.TheVariants as row
 use Rattle.plan_entries.specs.declared.entries.Entry.{Entry}
 use Rattle.plan_entries.specs.declared.entries.Entry.TheVariants.{Planned, Refused}
 use Rattle.plan_entries.specs.Entries.{number_of_entry, is_refused, any_refused}
-use Rattle.plan_mode.specs.Entries.{IsEntryOf, AreEntriesFrom}
+use Rattle.plan_mode.specs.Entries.{IsEntryOf}
 use Rattle.plan_mode.proofs.EntryFacts.{as_many, entries-more}
 use Rattle.floor_text.specs.declared.rows.FloorRow.{FloorRow}
 use Rattle.floor_text.specs.Text.{both_entries, entries_in, row_text, rows_text, IsRow, AreRowsFrom}
@@ -93,4 +93,3 @@ planned-count rows floors are = sym (entries_count floors) ∙ as_many 1 rows (e
 pub all-planned : (rows : List Row) (floors : List FloorRow) → ArePlanned rows floors → AreFirstPlanned rows floors
 all-planned rows floors are =
     subst (λ (rs : List Row). ArePlanned rs floors) (sym (take_all (2 * length floors) rows (omega (arith, planned-count rows floors are)))) are
-

@@ -1,6 +1,5 @@
 -- A run that read its input to its end, and what was written of it.
-use Rattle.std.proofs.Common.{◌≡◌, ◌≤◌, ◌⊎◌, ◌∙◌, ℕ, true, List, [], ◌++◌, length, ap, arith, inl, inr, refl, sym}
-use Rattle.std.specs.Prelude.{Bool}
+use Rattle.std.proofs.Common.{◌≡◌, ◌≤◌, ◌⊎◌, ◌∙◌, ℕ, true, List, [], ◌++◌, ap, arith, inl, inr, refl, sym}
 use Rattle.std.proofs.lemmas.List.{append-nil}
 use Rattle.plan_io.specs.Streams.{Intake, Outlet, at_end}
 use Rattle.run_parts.specs.Written.{Wrote, WrotePart}

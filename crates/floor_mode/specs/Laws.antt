@@ -1,5 +1,5 @@
 -- What follows of the runs of both modes.
-use Rattle.std.specs.Prelude.{ℕ, ◌≡◌, ◌↔◌, ◌*◌, ◌<◌, ◌≤◌, ⊤, Bool, true, false, List, map, slice_get, Some, IsTrue}
+use Rattle.std.specs.Prelude.{ℕ, ◌≡◌, ◌↔◌, ◌*◌, ◌<◌, ◌≤◌, Bool, true, false, List, map, slice_get, Some, IsTrue}
 use Rattle.plan_io.specs.Streams.{Intake, Outlet}
 use Rattle.plan_io.specs.Causes.{Rose}
 use Rattle.run_parts.specs.Codes.{IsDoneOrMemory}

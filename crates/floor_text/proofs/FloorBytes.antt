@@ -8,7 +8,7 @@ use Rattle.texts.specs.Lines.{ended, text_of, whole_lines, unfinished}
 use Rattle.texts.specs.Grammar.{NoneGoesOn}
 use Rattle.texts.specs.Spelling.{FaultsAt, HasOneSpelling}
 use Rattle.texts.proofs.LineEnds.{IsPlain}
-use Rattle.texts.proofs.Parsers.{plain_spaced, words_spaced}
+use Rattle.texts.proofs.Parsers.{plain_spaced}
 use Rattle.texts.proofs.Readers.{one_spelling}
 use Rattle.texts.proofs.Bytes.{Got, got, no_fault, Stopped, stopped, has_one_spelling}
 use Rattle.cert_text.specs.declared.forms.Form.TheVariants.{Two}
@@ -17,7 +17,7 @@ use Rattle.report_text.specs.Text.{entry_lines, entry_text}
 use Rattle.report_text.specs.Reports.{done_line, done_text}
 use Rattle.report_text.proofs.EntryBytes.{entry_plain, few_entry_lines}
 use Rattle.report_text.proofs.ReportReaders.{done_plain}
-use Rattle.truck_floor.specs.Text.{total_line, total_text}
+use Rattle.truck_floor.specs.Text.{total_line}
 use Rattle.truck_floor.proofs.TotalLines.{lines_plain}
 use Rattle.floor_text.specs.declared.rows.FloorRow.{FloorRow}
 use Rattle.floor_text.specs.Text.{head_line, head_text, row_lines, rows_lines, floor_lines, row_text, rows_text, floor_text, IsRow, AreRowsFrom, IsFloor, IsFloorIn}

@@ -2,7 +2,6 @@
 use Rattle.std.proofs.Common.{◌≡◌, ◌<◌, ◌≤◌, ◌+◌, ◌*◌, ℕ, List, [], ◌∷◌, ◌++◌, length, ap, arith}
 use Rattle.std.proofs.lemmas.List.{length-append}
 use Rattle.cert_text.specs.declared.forms.Form.TheVariants.{Two}
-use Rattle.plan_entries.specs.declared.entries.Entry.{Entry}
 use Rattle.report_text.specs.Text.{entry_text}
 use Rattle.report_text.specs.Reports.{head_text as report_head_text, done_text, entries_text}
 use Rattle.truck_floor.specs.Text.{total_text}

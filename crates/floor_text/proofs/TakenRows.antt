@@ -3,9 +3,6 @@ use Rattle.std.proofs.Common.{◌≡◌, ℕ, zero, suc, ◌-◌, ◌+◌, ◌*�
 use Rattle.std.proofs.lemmas.Bool.{cases_Bool}
 use Rattle.texts.specs.Grammar.{Reading, ◌>>=◌}
 use Rattle.texts.specs.Lines.{whole_lines}
-use Rattle.texts.specs.Gives.{Fails}
-use Rattle.texts.specs.declared.stops.Stop.{Stop}
-use Rattle.texts.specs.declared.stops.Stop.TheVariants as stops
 use Rattle.texts.proofs.Readers.{bind_ok, ok_is, not_both}
 use Rattle.choice_text.specs.Lines.{entry_follows}
 use Rattle.floor_text.specs.declared.rows.FloorRow.{FloorRow}

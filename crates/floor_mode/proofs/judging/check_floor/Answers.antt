@@ -1,4 +1,4 @@
-use Rattle.std.proofs.Common.{ap, refl, rules}
+use Rattle.std.proofs.Common.{refl, rules}
 use Rattle.std.specs.Prelude.{IsErrOf}
 use Rattle.run_parts.specs.declared.parts.WriteStop.TheVariants.{Fault as fault_stop}
 use Rattle.run_parts.specs.declared.codes.Code.TheVariants.{WriteFault}

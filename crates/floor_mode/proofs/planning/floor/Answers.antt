@@ -1,4 +1,4 @@
-use Rattle.std.proofs.Common.{◌≡◌, ◌∙◌, ◌/◌, ◌*◌, ◌≤◌, List, length, ap, inl, inr, sym, subst, rules}
+use Rattle.std.proofs.Common.{◌≡◌, ◌/◌, ◌*◌, ◌≤◌, List, length, inl, inr, sym, subst, rules}
 use Rattle.std.specs.Prelude.{IsErrOf}
 use Rattle.run_parts.specs.declared.parts.WriteStop.TheVariants.{Memory}
 use Rattle.order_reader.specs.declared.rows.Row.{Row}

@@ -1,4 +1,4 @@
-use Rattle.std.proofs.Common.{◌≡◌, ◌*◌, ◌++◌, [], List, length, ap, inr, refl, sym, subst, rules, eq-eqb}
+use Rattle.std.proofs.Common.{◌≡◌, ◌*◌, [], length, ap, inr, sym, subst, rules, eq-eqb}
 use Rattle.std.specs.Prelude.{◌==◌, IsErrOf}
 use Rattle.run_parts.specs.declared.parts.WriteStop.TheVariants.{Fault}
 use Rattle.run_parts.specs.Written.{Wrote, WrotePart}

@@ -1,10 +1,9 @@
-use Rattle.std.proofs.Common.{◌≡◌, ◌≤◌, ◌∙◌, ◌+◌, ◌*◌, ◌∷◌, ◌++◌, [], List, length, ap, arith, rules, sym}
+use Rattle.std.proofs.Common.{◌≤◌, ◌∙◌, ◌+◌, ◌*◌, ◌∷◌, ◌++◌, [], length, ap, arith, rules, sym}
 use Rattle.std.specs.Prelude.{IsErrOf, ◌||◌}
 use Rattle.std.proofs.lemmas.List.{length-append}
 use Rattle.run_parts.specs.declared.parts.WriteStop.TheVariants.{Fault}
 use Rattle.run_parts.proofs.Pieces.{wrote-trans, part-then}
 use Rattle.plan_entries.specs.Entries.{any_refused}
-use Rattle.floor_text.specs.declared.rows.FloorRow.{FloorRow}
 use Rattle.floor_text.specs.Text.{both_entries, row_text, rows_text}
 use Rattle.floor_mode.proofs.PlannedRows.{text-next, refused-next, planned-next, first-planned}
 use Rattle.floor_mode.proofs.planning.write_rows.Goals as goal

@@ -1,4 +1,4 @@
-use Rattle.std.proofs.Common.{rules, subst, sym}
+use Rattle.std.proofs.Common.{subst, sym}
 use Rattle.floor_mode.specs.Totals.{IsTotalLineOf}
 use Rattle.floor_mode.proofs.TotalFacts.{one-line}
 use Rattle.floor_mode.proofs.totals.is_total_line.Goals as goal
