@@ -1,6 +1,6 @@
 -- The line of a table's columns or rows is read exactly.
 use Rattle.std.proofs.Common.{◌≡◌, ℕ, zero, suc, ◌+◌, ◌≤◌, ◌<◌, List, [], ◌∷◌, ◌++◌, length, map, refl, sym, ap, subst, ◌∙◌, arith, true, false, Bool, leb, ltb, get_or, inl, inr}
-use Rattle.std.specs.Prelude.{decimal, ◌&&◌}
+use Rattle.std.specs.Prelude.{decimal}
 use Rattle.std.specs.Int.{div_ceil}
 use Rattle.std.specs.List.{list_all, AllByRecursion}
 use Rattle.std.specs.List.Sorted.{IsStrictlyIncreasing}
