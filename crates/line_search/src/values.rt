@@ -61,7 +61,7 @@ pub(crate) fn values_of(
         stepped: vec![in alloc; value; count]?,
         reflected: vec![in alloc; value; count]?,
         anchor: vec![in alloc; value; count]?,
-        counts: vec![in alloc; 1u64; count]?,
+        counts: vec![in alloc; 0u64; count]?,
         sums: vec![in alloc; 0u64; count]?,
         rates: vec![in alloc; 1u64; count]?,
     })
@@ -161,7 +161,7 @@ fn squares(stepped: &[u64], anchor: &[u64], counts: &[u64]) -> u64
     let mut sum: u64 = 0;
     for k in 0..counts.len() {
         let way = stepped[k].abs_diff(anchor[k]) >> 12;
-        sum = sum.saturating_add(way.saturating_mul(way).saturating_mul(counts[k]));
+        sum = sum.saturating_add(way.saturating_mul(way).saturating_mul(counts[k].max(1)));
     }
     sum
 }
