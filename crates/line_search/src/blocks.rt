@@ -1,6 +1,6 @@
 ghost use Rattle.std.specs.Prelude.{◌≡◌, ◌+◌, ◌*◌, ◌<◌, ◌≤◌, length};
 ghost use Rattle.line_tables.specs.Lines.{half};
-ghost use Rattle.line_search.specs.Blocks.{AreRanges};
+ghost use Rattle.line_search.specs.Blocks.{IsRange, AreRanges};
 
 // Grids that are the same from both ends along both axes. Of each a quarter is kept, row by row: the first half of
 // the rows, and of each the first half of the columns; of an odd number the half has the middle too. The sums below
@@ -89,6 +89,19 @@ fn sum_columns(low: &[u64], high: &[u64], columns: usize, strip: &mut [u64])
     }
 }
 
+// Does so with the rows of a range, by the sums of rows of a whole grid.
+fn sum_range(scratch: &[u64], columns: usize, rows: usize, range: Range, strip: &mut [u64])
+    requires few { rows ≤ 4000 }
+    requires scratch { length scratch.now ≡ (rows + 1) * half columns }
+    requires range { IsRange rows range }
+    requires strip { columns < length strip.old }
+{
+    let kept = columns.div_ceil(2);
+    let low = &scratch[range.from * kept..(range.from + 1) * kept];
+    let high = &scratch[range.to * kept..(range.to + 1) * kept];
+    sum_columns(low, high, columns, strip);
+}
+
 // Adds to each number what the columns of its range add up to.
 fn add_ranges(strip: &[u64], columns: usize, across: &[Range], sums: &mut [u64])
     requires strip { columns < length strip.now }
@@ -113,6 +126,7 @@ pub(crate) fn add_blocks(
     strip: &mut [u64],
     sums: &mut [u64],
 )
+    requires few { rows ≤ 4000 }
     requires cells { length cells.now ≡ half rows * half columns }
     requires across { AreRanges columns across.now }
     requires down { AreRanges rows down.now }
@@ -124,10 +138,7 @@ pub(crate) fn add_blocks(
     let width = across.len().div_ceil(2);
     sum_rows(cells, kept, rows, scratch);
     for y in 0..down.len().div_ceil(2) {
-        let Range { from, to } = down[y];
-        let low = &scratch[from * kept..(from + 1) * kept];
-        let high = &scratch[to * kept..(to + 1) * kept];
-        sum_columns(low, high, columns, strip);
+        sum_range(scratch, columns, rows, down[y], strip);
         add_ranges(strip, columns, across, &mut sums[y * width..(y + 1) * width]);
     }
 }

@@ -155,7 +155,8 @@ pub(crate) fn weigh(
     strip: &mut [u64],
 )
     requires weights { length weights.now ≡ half m * half k }
-    requires few { k ≤ 4000 }
+    requires few_columns { k ≤ 4000 }
+    requires few_rows { m ≤ 4000 }
     requires family { IsFamily k m family.old }
     requires scratch { length scratch.old ≡ (m + 1) * half k }
     requires strip { length strip.old ≡ 4001 }
@@ -206,7 +207,8 @@ fn step_levels(
     strip: &mut [u64],
 )
     requires weights { length weights.now ≡ half m * half k }
-    requires few { k ≤ 4000 }
+    requires few_columns { k ≤ 4000 }
+    requires few_rows { m ≤ 4000 }
     requires family { IsFamily k m family.old }
     requires scratch { length scratch.old ≡ (m + 1) * half k }
     requires strip { length strip.old ≡ 4001 }

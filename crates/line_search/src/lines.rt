@@ -29,7 +29,7 @@ fn starts_so(
     way: Way,
 ) -> Result<Vec<u32>, Memory>
     requires { ArePointsOf axis inst points.now }
-    ensures { IfOk result (λ v. Lists (IsStart axis inst way) v.items) }
+    ensures starts { IfOk result (λ v. Lists (IsStart axis inst way) v.items) }
 {
     let (side, extent) = (side_along(axis, inst), extent_along(axis, inst, way));
     if is_lawful(inst, way) && extent <= side {
@@ -68,7 +68,8 @@ fn has(places: &[u32], place: u32) -> bool
 // The places where the cases of a way start.
 pub(crate) fn places_so(starts: &Starts, way: Way) -> &[u32]
     requires { AreStarts starts.now }
-    ensures { Lists (IsStart starts.now.axis starts.now.inst way) result.now }
+    ensures starts { Lists (IsStart starts.now.axis starts.now.inst way) result.now }
+    ensures few { length result.now ≤ 4000 }
 {
     match way {
         Way::Lying => starts.lying.as_slice(),

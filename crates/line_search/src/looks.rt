@@ -22,7 +22,8 @@ fn lighten(
     least: &mut [u64],
 )
     requires weights { length weights.now ≡ half m * half k }
-    requires few { k ≤ 4000 }
+    requires few_columns { k ≤ 4000 }
+    requires few_rows { m ≤ 4000 }
     requires family { IsFamily k m family.old }
     requires scratch { length scratch.old ≡ (m + 1) * half k }
     requires strip { length strip.old ≡ 4001 }
@@ -97,7 +98,7 @@ fn packed_so(
     strip: &mut [u64],
 ) -> Result<u64, Memory>
     requires covers { length covers.now ≡ half m * half k }
-    requires few { k ≤ 4000 }
+    requires few_columns { k ≤ 4000 }
     requires family { IsFamily k m family.now }
     requires strip { length strip.old ≡ 4001 }
     requires row { length row.old ≡ 2000 }

@@ -1,11 +1,9 @@
 ghost use Rattle.std.specs.Prelude.{◌≡◌, ℕ, ◌≤◌, ◌↔◌, List, length, IfOk, IfSome, IfNone, IsSome, IsTrue, Some, None};
 ghost use Rattle.plan_geometry.specs.declared.spots.Axis.TheVariants.{X, Y};
-ghost use Rattle.plan_geometry.specs.Layout.{IsBounded};
 ghost use Rattle.raster_points.specs.Places.{Lists};
-ghost use Rattle.line_tables.specs.Lines.{weight_at, BelongsTo};
+ghost use Rattle.line_tables.specs.Lines.{BelongsTo};
 ghost use Rattle.line_search.specs.Lines.{IsLine};
 ghost use Rattle.line_search.specs.Flows.{AreAxes};
-ghost use Rattle.line_tables.specs.Least.{IsTotalByLeast};
 ghost use Rattle.line_search.specs.Search.{HasFewLines, IsBounding, Closes};
 ghost use Rattle.line_search.specs.declared.search.End.{End};
 
@@ -124,15 +122,25 @@ fn are_few(columns: &[u32], rows: &[u32]) -> bool
         && columns.len().div_ceil(2) * rows.len().div_ceil(2) <= MOST_LISTED
 }
 
-// The bound of a table, where a case may not weigh nothing.
-fn bound_of(table: &LineTable, inst: Inst) -> Option<u64>
+// A copy of a table with its bound, where that is below the least that is known.
+fn bounding_of(
+    alloc: Global,
+    inst: Inst,
+    table: &LineTable,
+    least: u64,
+) -> Result<Option<Bounding>, Memory>
     requires { BelongsTo table.now inst }
-    ensures { IfSome result (λ n. IsTotalByLeast inst (weight_at table.now) n × IsBounded inst n) }
+    ensures { IfOk result (λ made. IfSome made (IsBounding inst)) }
 {
-    if case_fits(inst) {
-        table.bound(inst)
-    } else {
-        None
+    if !case_fits(inst) {
+        return Ok(None);
+    }
+    match table.bound(inst) {
+        Some(bound) if bound < least => {
+            let table = table.copied(alloc)?;
+            Ok(Some(Bounding { table, bound }))
+        }
+        _ => Ok(None),
     }
 }
 
@@ -216,17 +224,23 @@ impl LineSearch {
     fn end(&self, target: u32, known: u32) -> End
         ensures { (result ≡ End.Closed) ↔ Closes self.now target }
     {
-        let mut bound = u64::from(known);
         if let Some(best) = &self.best {
             if best.bound <= u64::from(target) {
                 return End::Closed;
             }
-            bound = bound.min(best.bound);
         }
-        if bound <= self.packed.saturating_add(NEAR) / ONE {
+        if self.least_bound(known) <= self.packed.saturating_add(NEAR) / ONE {
             End::Hopeless
         } else {
             End::Spent
+        }
+    }
+
+    // The least bound that is known.
+    fn least_bound(&self, known: u32) -> u64 {
+        match &self.best {
+            Some(best) => best.bound.min(u64::from(known)),
+            None => u64::from(known),
         }
     }
 
@@ -245,15 +259,10 @@ impl LineSearch {
         let Some(table) = made else {
             return Ok(());
         };
-        let least = match &self.best {
-            Some(best) => best.bound.min(u64::from(known)),
-            None => u64::from(known),
-        };
-        if let Some(bound) = bound_of(&table, self.inst) {
-            if bound < least {
-                let table = table.copied(alloc)?;
-                self.best = Some(Bounding { table, bound });
-            }
+        let least = self.least_bound(known);
+        let better = bounding_of(alloc, self.inst, &table, least)?;
+        if better.is_some() {
+            self.best = better;
         }
         self.lightest = Some(table);
         Ok(())
