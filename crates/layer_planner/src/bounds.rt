@@ -47,7 +47,7 @@ fn by_lead(alloc: Global, given: Inst, reduced: Inst, lead: &Weighting) -> Resul
         None => unreachable!(),
     };
     let weighting = lead.copied(alloc)?;
-    by_weights(alloc, bound, weighting)
+    by_weights(alloc, bound as u32, weighting)
 }
 
 // The bound so far, or that of the strips where it is less.
