@@ -1,5 +1,5 @@
 -- Starts of cases, ends and lines.
-use Rattle.std.proofs.Common.{◌≡◌, ◌≢◌, ℕ, zero, suc, ◌+◌, ◌-◌, ◌<◌, ◌≤◌, ◌⊎◌, ◌↔◌, Bool, true, false, IsTrue, List, length, get_or, set, replicate, Option, Some, None, Result, Ok, Err, inl, inr, sym, ap, subst, ◌∙◌, refl, arith}
+use Rattle.std.proofs.Common.{◌≡◌, ◌≢◌, ℕ, zero, suc, ◌+◌, ◌-◌, ◌*◌, ◌<◌, ◌≤◌, ◌⊎◌, ◌↔◌, Bool, true, false, IsTrue, List, length, get_or, set, take, replicate, ◌++◌, Option, Some, None, Result, Ok, Err, inl, inr, sym, ap, subst, ◌∙◌, refl, arith}
 use Rattle.std.specs.List.{All, AllPairs, Contains}
 use Rattle.std.specs.Ordering.{nat_cmp}
 use Rattle.std.specs.Result.{is_ok}
@@ -8,6 +8,7 @@ use Rattle.std.specs.List.Sorted.{IsBinarySearchResult}
 use Rattle.std.proofs.lemmas.Bool.{cases_lt, cases_eq, eq-eqb, false≢true}
 use Rattle.std.proofs.lemmas.List.{get_or_default, get_or-set_same, get_or-set_other, length-set, get_or-replicate, length-replicate}
 use Rattle.std.proofs.lemmas.List.Sorted.{searched}
+use Rattle.std.proofs.Math.Seq.{take-append_seam}
 use Rattle.plan_geometry.specs.declared.spots.Axis.{Axis}
 use Rattle.plan_geometry.specs.declared.spots.Way.{Way}
 use Rattle.plan_geometry.specs.declared.spots.Axis.TheVariants.{X, Y}
@@ -18,6 +19,8 @@ use Rattle.partitions.specs.Partitions.{IsNormal}
 use Rattle.raster_points.specs.Places.{IsDown, Lists}
 use Rattle.raster_points.proofs.PlaceLemmas.{normal_down}
 use Rattle.line_search.specs.Lines.{IsStart, IsEnd, IsFirstEnd, IsNormalFromEnd, IsLastBefore, IsLineOf, IsLine}
+use Rattle.line_tables.specs.Lines.{half}
+use Rattle.line_search.specs.Search.{HasFewLines}
 use Rattle.line_search.specs.Starts.{IsLineOfSome, IsMarked}
 
 -- ---- rising numbers
@@ -51,8 +54,7 @@ searched-has xs x (Ok i) up h =
     let at = searched xs x (Ok i) h (λ i j le lt. rising-le xs i j up le lt) in
     (λ b. (i, at.0, sym (get_or_default xs i 0 x at.0) ∙ at.1), λ c. refl)
 searched-has xs x (Err i) up h =
-    let at = searched xs x (Err i) h (λ i j le lt. rising-le xs i j up le lt) in
-    (
+    let at = searched xs x (Err i) h (λ i j le lt. rising-le xs i j up le lt) in (
       λ b. absurd (false≢true b),
       λ c.
           let k = c.0 in
@@ -67,8 +69,7 @@ searched-has xs x (Err i) up h =
 
 pub normal_from_end : (a : Axis) (I : Inst) (place left down : ℕ) → left ≡ side a I - place → place ≤ side a I → IsDown left I.long I.short down → (down ≡ left) ↔ IsNormalFromEnd a I place
 normal_from_end a I place left down e within d =
-    let n = normal_down (side a I) I.long I.short left down (omega arith) d in
-    (
+    let n = normal_down (side a I) I.long I.short left down (omega arith) d in (
       λ same. record { within = within; normal = subst (λ v. IsNormal (side a I) I.long I.short v) e (n.0 same) },
       λ h. n.1 (subst (λ v. IsNormal (side a I) I.long I.short v) (sym e) h.normal),
     )
@@ -165,6 +166,7 @@ lines-of-ways a I lying standing none one both l s empty h k v = (
     some-of way starts start all p q =
         let at = all.whole start p in
         record { place = at.0; within = at.1; line_of = subst (λ i. IsLineOf a I i v) (sym (get_or_default starts at.0 0 start at.1 ∙ at.2)) q }
+
     by-way : (way : Way) (start : ℕ) → IsStart a I way start → IsLineOf a I start v → IsMarked both v
     by-way Lying start p q = (k v).1 (inl ((h v).1 (inr (some-of Lying lying start l p q))))
     by-way Standing start p q = (k v).1 (inr (some-of Standing standing start s p q))
@@ -223,5 +225,56 @@ end-within a I v h =
 -- where the first end behind a start has no such place before it, the start has no line
 pub no-line-of : (a : Axis) (I : Inst) (start end : ℕ) (r : Option ℕ) → IsFirstEnd a I start end → IfNone r ((place : ℕ) → ¬ IsLastBefore a I end place) → IfNone r ((line : ℕ) → ¬ IsLineOf a I start line)
 no-line-of a I start end (Some v) h n = tt
-no-line-of a I start end None h n line l =
-    n line (subst (λ e. IsLastBefore a I e line) (first_end-unique a I start l.end end l.first h) l.last)
+no-line-of a I start end None h n =
+    λ line l. n line (subst (λ e. IsLastBefore a I e line) (first_end-unique a I start l.end end l.first h) l.last)
+
+-- what is written over the whole of a list
+pub kept-whole : (n : ℕ) (xs ys : List Bool) → length xs ≡ n → take n (xs ++ ys) ≡ xs
+kept-whole n xs ys e = ap (λ m. take m (xs ++ ys)) (sym e) ∙ take-append_seam xs ys
+
+-- ---- two lists of the same numbers
+
+-- a number of the first list stands in the second one at least as far from its start
+subset-index : (xs ys : List ℕ) (k : ℕ) → AllPairs (λ (x y : ℕ). x < y) xs → AllPairs (λ (x y : ℕ). x < y) ys → All (Contains ys) xs → k < length xs → (j : ℕ) × (k ≤ j) × (j < length ys) × (get_or ys j 0 ≡ get_or xs k 0)
+subset-index xs ys zero up wp sub l =
+    let at = sub 0 0 l in
+    (at.0, omega arith, at.1, get_or_default ys at.0 0 (get_or xs 0 0) at.1 ∙ at.2)
+subset-index xs ys (suc k) up wp sub l =
+    let before = subset-index xs ys k up wp sub (omega arith) in
+    let at = sub (suc k) 0 l in
+    let here : get_or ys at.0 0 ≡ get_or xs (suc k) 0 = get_or_default ys at.0 0 (get_or xs (suc k) 0) at.1 ∙ at.2 in
+    let rises : get_or xs k 0 < get_or xs (suc k) 0 = up k (suc k) 0 (omega arith) l in
+    elim (cases_lt before.0 at.0) [
+      | inl later ↦ (at.0, omega (arith, before.1), at.1, here)
+      | inr le ↦ absurd (omega (arith, rising-le ys at.0 before.0 wp le before.2, before.3, here))
+    ]
+
+subset-few : (xs ys : List ℕ) → AllPairs (λ (x y : ℕ). x < y) xs → AllPairs (λ (x y : ℕ). x < y) ys → All (Contains ys) xs → length xs ≤ length ys
+subset-few xs ys up wp sub = elim (cases_lt 0 (length xs)) [
+  | inl some ↦
+      let at = subset-index xs ys (length xs - 1) up wp sub (omega arith) in
+      omega (arith, at.1, at.2)
+  | inr none ↦ omega arith
+]
+
+pub lists-length : (P : ℕ → Type 0) (xs ys : List ℕ) → Lists P xs → Lists P ys → length xs ≡ length ys
+lists-length P xs ys h k =
+    let below = subset-few xs ys h.rising k.rising (λ i d l. k.whole (get_or xs i d) (h.each i d l)) in
+    let above = subset-few ys xs k.rising h.rising (λ i d l. h.whole (get_or ys i d) (k.each i d l)) in
+    omega arith
+
+pub few-lines : (I : Inst) (columns rows : List ℕ) → Lists (IsLine X I) columns → Lists (IsLine Y I) rows
+    → ((1 ≤ length columns) × (1 ≤ length rows) × (half (length columns) * half (length rows) ≤ 40000)) ↔ HasFewLines I
+few-lines I columns rows h k = (
+  λ f. record { columns = columns; rows = rows; are_columns = h; are_rows = k; columns_some = f.0; rows_some = f.1; few = f.2 },
+  λ f.
+      let a : length f.columns ≡ length columns = lists-length (IsLine X I) f.columns columns f.are_columns h in
+      let b : length f.rows ≡ length rows = lists-length (IsLine Y I) f.rows rows f.are_rows k in
+      let few : half (length columns) * half (length rows) ≤ 40000 = subst (λ n. half n * half (length rows) ≤ 40000) a (subst (λ n. half (length f.columns) * half n ≤ 40000) b f.few) in
+      (omega (arith, a, f.columns_some), omega (arith, b, f.rows_some), few),
+)
+
+pub few-counts : (I : Inst) (columns rows : List ℕ) (k m : ℕ) → k ≡ length columns → m ≡ length rows → Lists (IsLine X I) columns → Lists (IsLine Y I) rows
+    → ((1 ≤ k) × (1 ≤ m) × (half k * half m ≤ 40000)) ↔ HasFewLines I
+few-counts I columns rows k m a b h l =
+    subst (λ n. ((1 ≤ n) × (1 ≤ m) × (half n * half m ≤ 40000)) ↔ HasFewLines I) (sym a) (subst (λ n. ((1 ≤ length columns) × (1 ≤ n) × (half (length columns) * half n ≤ 40000)) ↔ HasFewLines I) (sym b) (few-lines I columns rows h l))

@@ -16,7 +16,9 @@ use Rattle.line_search.specs.Values.{AreValues}
 -- the lines of both axes, and where cases start along them
 pub record AreAxes (I : Inst) (a : Axes) : Type 0 where
   pub columns : Lists (IsLine X I) a.columns.items
+  pub columns_few : vec_len a.columns ≤ 4000
   pub rows : Lists (IsLine Y I) a.rows.items
+  pub rows_few : vec_len a.rows ≤ 4000
   pub across : AreStarts a.across
   pub across_axis : a.across.axis ≡ X
   pub across_inst : a.across.inst ≡ I

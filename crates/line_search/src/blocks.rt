@@ -139,7 +139,12 @@ pub(crate) fn add_blocks(
     sum_rows(cells, kept, rows, scratch);
     for y in 0..down.len().div_ceil(2) {
         sum_range(scratch, columns, rows, down[y], strip);
-        add_ranges(strip, columns, across, &mut sums[y * width..(y + 1) * width]);
+        add_ranges(
+            strip,
+            columns,
+            across,
+            &mut sums[y * width..(y + 1) * width],
+        );
     }
 }
 
@@ -185,7 +190,13 @@ fn best_of(extreme: Extreme, numbers: &[u64]) -> u64 {
 }
 
 // Puts into each number the better of it and the best of the columns of its range.
-fn better_ranges(extreme: Extreme, strip: &[u64], columns: usize, across: &[Range], best: &mut [u64])
+fn better_ranges(
+    extreme: Extreme,
+    strip: &[u64],
+    columns: usize,
+    across: &[Range],
+    best: &mut [u64],
+)
     requires strip { columns ≤ length strip.now }
     requires across { AreRanges columns across.now }
     requires best { length best.old ≤ length across.now }
@@ -221,7 +232,13 @@ pub(crate) fn better_blocks(
         let row = &mut row[..kept];
         best_of_rows(extreme, cells, rows, down[y], row);
         unfold(row, columns, strip);
-        better_ranges(extreme, strip, columns, across, &mut best[y * width..(y + 1) * width]);
+        better_ranges(
+            extreme,
+            strip,
+            columns,
+            across,
+            &mut best[y * width..(y + 1) * width],
+        );
     }
 }
 

@@ -6,7 +6,10 @@ ghost use Rattle.line_search.specs.Flows.{AreAxes, IsFamily, IsFlow};
 use crate::blocks::{Range, add_blocks};
 use crate::lines::{Starts, places_so};
 use crate::ranges::{add_counts, covers_of, ranges_of};
-use crate::values::{MOST, ONE, PLACES, Values, begin_at_step, go, led_to, set_rates, step, values_of, way};
+use crate::values::{
+    MOST, ONE, PLACES, Values, begin_at_step, go, led_to, scratch_of, set_rates, step, values_of,
+    way,
+};
 use plan_geometry::{Axis, Inst, Way, extent_along};
 use plan_memory::Memory;
 use std::alloc::Global;
@@ -65,13 +68,23 @@ fn family_of(alloc: Global, inst: Inst, axes: &Axes, way: Way) -> Result<Family,
 {
     let wide = extent_along(Axis::X, inst, way);
     let high = extent_along(Axis::Y, inst, way);
-    let across = ranges_of(alloc, axes.columns.as_slice(), places_so(&axes.across, way), wide)?;
-    let down = ranges_of(alloc, axes.rows.as_slice(), places_so(&axes.down, way), high)?;
+    let across = ranges_of(
+        alloc,
+        axes.columns.as_slice(),
+        places_so(&axes.across, way),
+        wide,
+    )?;
+    let down = ranges_of(
+        alloc,
+        axes.rows.as_slice(),
+        places_so(&axes.down, way),
+        high,
+    )?;
     let cover_across = covers_of(alloc, across.as_slice(), axes.columns.len())?;
     let cover_down = covers_of(alloc, down.as_slice(), axes.rows.len())?;
     let mut levels = values_of(alloc, across.len(), down.len(), 0)?;
     count_levels(&mut levels, across.as_slice(), down.as_slice());
-    let scratch = vec![in alloc; 0u64; (down.len() + 1) * across.len().div_ceil(2)]?;
+    let scratch = scratch_of(alloc, across.len(), down.len())?;
     Ok(Family {
         across,
         down,
@@ -115,6 +128,29 @@ fn places_of(lying: &Family, standing: &Family) -> u64 {
     lying.saturating_add(standing)
 }
 
+// Weights that all begin alike, where these cases cover the crossings.
+fn weights_of(
+    alloc: Global,
+    k: usize,
+    m: usize,
+    weight: u64,
+    lying: &Family,
+    standing: &Family,
+) -> Result<Values, Memory>
+    requires few_columns { k ≤ 4000 }
+    requires few_rows { m ≤ 4000 }
+    requires lying { IsFamily k m lying.now }
+    requires standing { IsFamily k m standing.now }
+    ensures values { IfOk result (λ v. AreValues v) }
+    ensures columns { IfOk result (λ v. v.columns ≡ k) }
+    ensures rows { IfOk result (λ v. v.rows ≡ m) }
+{
+    let mut weights = values_of(alloc, k, m, weight)?;
+    count_covers(&mut weights, lying);
+    count_covers(&mut weights, standing);
+    Ok(weights)
+}
+
 // The start: each crossing weighs the same, all of them about the target, and no case has a level.
 pub(crate) fn flow_of(alloc: Global, inst: Inst, axes: &Axes, target: u32) -> Result<Flow, Memory>
     requires { AreAxes inst axes.now }
@@ -125,11 +161,9 @@ pub(crate) fn flow_of(alloc: Global, inst: Inst, axes: &Axes, target: u32) -> Re
     let lying = family_of(alloc, inst, axes, Way::Lying)?;
     let standing = family_of(alloc, inst, axes, Way::Standing)?;
     let weight = (u64::from(target) + 1).saturating_mul(ONE) / crossings.max(1);
-    let mut weights = values_of(alloc, k, m, weight.min(MOST))?;
-    count_covers(&mut weights, &lying);
-    count_covers(&mut weights, &standing);
+    let weights = weights_of(alloc, k, m, weight.min(MOST), &lying, &standing)?;
     let balance = (crossings << PLACES) / places_of(&lying, &standing).max(1);
-    let scratch = vec![in alloc; 0u64; (m + 1) * k.div_ceil(2)]?;
+    let scratch = scratch_of(alloc, k, m)?;
     let strip = vec![in alloc; 0u64; 4001]?;
     let row = vec![in alloc; 0u64; 2000]?;
     let mut flow = Flow {
@@ -169,7 +203,14 @@ pub(crate) fn weigh(
 }
 
 // Adds to each crossing how much the levels of a way cover it: those to which the step led, or the reflections.
-fn cover(family: &mut Family, k: usize, m: usize, stepped: bool, strip: &mut [u64], sums: &mut [u64])
+fn cover(
+    family: &mut Family,
+    k: usize,
+    m: usize,
+    stepped: bool,
+    strip: &mut [u64],
+    sums: &mut [u64],
+)
     requires family { IsFamily k m family.old }
     requires strip { length strip.old ≡ 4001 }
     requires sums { length sums.old ≡ half m * half k }
@@ -177,10 +218,7 @@ fn cover(family: &mut Family, k: usize, m: usize, stepped: bool, strip: &mut [u6
 {
     let (columns, rows) = (family.levels.columns, family.levels.rows);
     let levels = led_to(&family.levels, stepped);
-    let (across, down) = (
-        family.cover_across.as_slice(),
-        family.cover_down.as_slice(),
-    );
+    let (across, down) = (family.cover_across.as_slice(), family.cover_down.as_slice());
     let scratch = family.scratch.as_mut_slice();
     add_blocks(levels, columns, rows, across, down, scratch, strip, sums);
 }

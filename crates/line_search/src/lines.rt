@@ -1,4 +1,4 @@
-ghost use Rattle.std.specs.Prelude.{◌≡◌, ℕ, ◌<◌, ◌≤◌, ◌↔◌, ◌⊎◌, length, slice_index, All, AllPairs, Contains, IsTrue, IfOk, IfSome, IfNone};
+ghost use Rattle.std.specs.Prelude.{◌≡◌, ℕ, ◌<◌, ◌≤◌, ◌↔◌, ◌⊎◌, length, slice_index, All, AllPairs, Contains, IsTrue, IfOk, IfSome, IfNone, vec_len};
 ghost use Rattle.plan_geometry.specs.Layout.{side};
 ghost use Rattle.raster_points.specs.Places.{Lists};
 ghost use Rattle.raster_points.specs.Points.{ArePointsOf};
@@ -166,7 +166,8 @@ fn mark_lines(starts: &Starts, places: &[u32], marks: &mut [bool])
 // The numbers that are marked.
 fn marked(alloc: Global, marks: &[bool]) -> Result<Vec<u32>, Memory>
     requires { length marks.now ≤ 4000 }
-    ensures { IfOk result (λ v. Lists (IsMarked marks.now) v.items) }
+    ensures marked { IfOk result (λ v. Lists (IsMarked marks.now) v.items) }
+    ensures few { IfOk result (λ v. vec_len v ≤ length marks.now) }
 {
     let mut found = Vec::new(alloc);
     for v in 0..marks.len() {
@@ -177,15 +178,26 @@ fn marked(alloc: Global, marks: &[bool]) -> Result<Vec<u32>, Memory>
     Ok(found)
 }
 
+// Marks the lines of the starts of both ways.
+fn mark_all(starts: &Starts, marks: &mut [bool])
+    requires starts { AreStarts starts.now }
+    requires marks { length marks.old ≡ side starts.now.axis starts.now.inst }
+    requires none { (v : ℕ) → ¬ IsMarked marks.old v }
+    ensures { (v : ℕ) → IsMarked marks.new v ↔ IsLine starts.now.axis starts.now.inst v }
+{
+    mark_lines(starts, places_so(starts, Way::Lying), marks);
+    mark_lines(starts, places_so(starts, Way::Standing), marks);
+}
+
 // The lines of the axis of these starts.
 pub(crate) fn lines_by(alloc: Global, starts: &Starts) -> Result<Vec<u32>, Memory>
     requires { AreStarts starts.now }
-    ensures { IfOk result (λ v. Lists (IsLine starts.now.axis starts.now.inst) v.items) }
+    ensures lines { IfOk result (λ v. Lists (IsLine starts.now.axis starts.now.inst) v.items) }
+    ensures few { IfOk result (λ v. vec_len v ≤ 4000) }
 {
     let side = side_along(starts.axis, starts.inst);
     let mut marks = vec![in alloc; false; side as usize]?;
-    mark_lines(starts, starts.lying.as_slice(), marks.as_mut_slice());
-    mark_lines(starts, starts.standing.as_slice(), marks.as_mut_slice());
+    mark_all(starts, marks.as_mut_slice());
     marked(alloc, marks.as_slice())
 }
 

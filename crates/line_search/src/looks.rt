@@ -57,7 +57,12 @@ fn divide_each(weights: &[u64], least: &mut [u64])
 
 // The weights to which the step led, each divided by the least weight of a case that covers its crossing: so that each
 // case weighs the unit at least.
-pub(crate) fn repaired(alloc: Global, flow: &mut Flow, k: usize, m: usize) -> Result<Vec<u64>, Memory>
+pub(crate) fn repaired(
+    alloc: Global,
+    flow: &mut Flow,
+    k: usize,
+    m: usize,
+) -> Result<Vec<u64>, Memory>
     requires { IsFlow k m flow.old }
     ensures flow { IsFlow k m flow.new }
     ensures count { IfOk result (λ v. vec_len v ≡ half m * half k) }
@@ -69,7 +74,16 @@ pub(crate) fn repaired(alloc: Global, flow: &mut Flow, k: usize, m: usize) -> Re
     let row = flow.row.as_mut_slice();
     let entries = least.as_mut_slice();
     lighten(weights, k, m, &mut flow.lying, scratch, strip, row, entries);
-    lighten(weights, k, m, &mut flow.standing, scratch, strip, row, entries);
+    lighten(
+        weights,
+        k,
+        m,
+        &mut flow.standing,
+        scratch,
+        strip,
+        row,
+        entries,
+    );
     divide_each(weights, entries);
     Ok(least)
 }
@@ -150,7 +164,11 @@ fn rounded_part(weight: u64, greatest: u64) -> u32
 {
     let most = u64::from(MOST_WEIGHT);
     let twice = greatest.saturating_mul(2).max(1);
-    let part = weight.saturating_mul(2).saturating_mul(most).saturating_add(greatest) / twice;
+    let part = weight
+        .saturating_mul(2)
+        .saturating_mul(most)
+        .saturating_add(greatest)
+        / twice;
     part.min(most) as u32
 }
 

@@ -43,11 +43,7 @@ fn covers(ranges: &[Range], line: usize) -> Range
 }
 
 // For each of so many lines the range of the places that cover it.
-pub(crate) fn covers_of(
-    alloc: Global,
-    ranges: &[Range],
-    lines: usize,
-) -> Result<Vec<Range>, Memory>
+pub(crate) fn covers_of(alloc: Global, ranges: &[Range], lines: usize) -> Result<Vec<Range>, Memory>
     ensures ranges { IfOk result (λ v. AreRanges (length ranges.now) v.items) }
     ensures count { IfOk result (λ v. vec_len v ≡ lines) }
 {

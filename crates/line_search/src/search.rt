@@ -1,7 +1,7 @@
-ghost use Rattle.std.specs.Prelude.{◌≡◌, ℕ, ◌≤◌, ◌↔◌, List, length, IfOk, IfSome, IfNone, IsSome, IsTrue, Some, None};
+ghost use Rattle.std.specs.Prelude.{◌≡◌, ◌*◌, ◌≤◌, ◌↔◌, IfOk, IfSome, IfNone, IsSome, IsTrue, Some, None};
 ghost use Rattle.plan_geometry.specs.declared.spots.Axis.TheVariants.{X, Y};
 ghost use Rattle.raster_points.specs.Places.{Lists};
-ghost use Rattle.line_tables.specs.Lines.{BelongsTo};
+ghost use Rattle.line_tables.specs.Lines.{half, BelongsTo};
 ghost use Rattle.line_search.specs.Lines.{IsLine};
 ghost use Rattle.line_search.specs.Flows.{AreAxes};
 ghost use Rattle.line_search.specs.Search.{HasFewLines, IsBounding, Closes};
@@ -111,15 +111,21 @@ fn axes_of(alloc: Global, inst: Inst) -> Result<Axes, Memory>
     })
 }
 
-// Whether there are lines along both axes, and few enough of them for a table.
-fn are_few(columns: &[u32], rows: &[u32]) -> bool
-    requires columns { length columns.now ≤ 4000 }
-    requires rows { length rows.now ≤ 4000 }
-    ensures { IsTrue result ↔ HasFewLines columns.now rows.now }
+// Whether so many columns and rows are some, and few enough for a table.
+fn is_few(k: usize, m: usize) -> bool
+    requires columns { k ≤ 4000 }
+    requires rows { m ≤ 4000 }
+    ensures { IsTrue result ↔ (1 ≤ k × 1 ≤ m × half k * half m ≤ 40000) }
 {
-    !columns.is_empty()
-        && !rows.is_empty()
-        && columns.len().div_ceil(2) * rows.len().div_ceil(2) <= MOST_LISTED
+    1 <= k && 1 <= m && k.div_ceil(2) * m.div_ceil(2) <= MOST_LISTED
+}
+
+// Whether there are lines along both axes, and few enough of them for a table.
+fn are_few(inst: Inst, axes: &Axes) -> bool
+    requires { AreAxes inst axes.now }
+    ensures { IsTrue result ↔ HasFewLines inst }
+{
+    is_few(axes.columns.len(), axes.rows.len())
 }
 
 // A copy of a table with its bound, where that is below the least that is known.
@@ -167,13 +173,12 @@ impl LineSearch {
     /// axis, or where the quarter of the crossings has more than 40,000 weights. Memory is taken for some ten numbers
     /// for each crossing of a quarter and for each place of a case in a quarter.
     pub fn start(alloc: Global, inst: Inst, target: u32) -> Result<Option<LineSearch>, Memory>
-        ensures accepted { IfOk result (λ made. IsSome made
-            ↔ ((columns rows : List ℕ) → Lists (IsLine X inst) columns → Lists (IsLine Y inst) rows → HasFewLines columns rows)) }
+        ensures accepted { IfOk result (λ made. IsSome made ↔ HasFewLines inst) }
         ensures begun { IfOk result (λ made. IfSome made
             (λ s. s ≡ record { inst = inst; best = None; lightest = None; turns = 0 })) }
     {
         let axes = axes_of(alloc, inst)?;
-        if !are_few(axes.columns.as_slice(), axes.rows.as_slice()) {
+        if !are_few(inst, &axes) {
             return Ok(None);
         }
         let flow = flow_of(alloc, inst, &axes, target)?;
@@ -268,28 +273,35 @@ impl LineSearch {
         Ok(())
     }
 
-    // Looks at where the last step led: tests the table of the repaired weights where they are lighter than all before,
-    // and packs the levels. Then begins again there where what the weights bound is less than a third as far from what
-    // the levels pack as it was, or after many turns; else goes on.
-    fn look(&mut self, alloc: Global, known: u32) -> Result<(), Memory>
+    // Begins again where the last step led if what the weights bound is less than a third as far from what the levels
+    // pack as it was, or after many turns; else goes on.
+    fn go_on(&mut self, gap: u64)
         ensures inst { self.new.inst ≡ self.old.inst }
     {
         let (k, m) = (self.columns.len(), self.rows.len());
-        let weights = repaired(alloc, &mut self.flow, k, m)?;
-        let total = total_of(weights.as_slice(), k, m);
-        if total < self.least {
-            self.test(alloc, known, weights.as_slice())?;
-            self.least = total;
-        }
-        let packed = packed(alloc, &mut self.flow, k, m)?;
-        self.packed = self.packed.max(packed);
-        let gap = total.saturating_sub(packed);
         if gap < self.gap / 3 || (self.since > 200 && self.since.saturating_mul(3) > self.turns) {
             self.gap = gap;
             self.since = 0;
             restart(&mut self.flow, k, m);
         } else {
             go_all(&mut self.flow, k, m, self.since);
+        }
+    }
+
+    // Looks at where the last step led: packs the levels, and tests the table of the repaired weights where these are
+    // lighter than all before.
+    fn look(&mut self, alloc: Global, known: u32) -> Result<(), Memory>
+        ensures inst { self.new.inst ≡ self.old.inst }
+    {
+        let (k, m) = (self.columns.len(), self.rows.len());
+        let weights = repaired(alloc, &mut self.flow, k, m)?;
+        let packed = packed(alloc, &mut self.flow, k, m)?;
+        let total = total_of(weights.as_slice(), k, m);
+        self.packed = self.packed.max(packed);
+        self.go_on(total.saturating_sub(packed));
+        if total < self.least {
+            self.least = total;
+            self.test(alloc, known, weights.as_slice())?;
         }
         Ok(())
     }

@@ -31,24 +31,45 @@ fn outcome(
 #[test]
 fn a_long_search(rt: HostRuntime) -> Result<(), Fail> {
     let sides = (200, 183, 15, 11);
-    assert_eq!(rt; outcome(rt.alloc(), sides, 220, 221)?, Some((End::Closed, 260, Some(220))));
-    assert_eq!(rt; outcome(rt.alloc(), sides, 219, 221)?, Some((End::Hopeless, 360, Some(220))));
+    assert_eq!(rt;
+        outcome(rt.alloc(), sides, 220, 221)?,
+        Some((End::Closed, 260, Some(220)))
+    );
+    assert_eq!(rt;
+        outcome(rt.alloc(), sides, 219, 221)?,
+        Some((End::Hopeless, 360, Some(220)))
+    );
     Ok(())
 }
 
 #[test]
 fn shorter_searches(rt: HostRuntime) -> Result<(), Fail> {
     let alloc = rt.alloc();
-    assert_eq!(rt; outcome(alloc, (104, 65, 19, 5), 65, 71)?, Some((End::Hopeless, 80, Some(68))));
-    assert_eq!(rt; outcome(alloc, (43, 26, 7, 3), 52, 53)?, Some((End::Hopeless, 340, None)));
-    assert_eq!(rt; outcome(alloc, (5, 5, 3, 3), 1, 2)?, Some((End::Closed, 20, Some(1))));
-    assert_eq!(rt; outcome(alloc, (47, 27, 10, 3), 40, 42)?, Some((End::Closed, 40, Some(40))));
+    assert_eq!(rt;
+        outcome(alloc, (104, 65, 19, 5), 65, 71)?,
+        Some((End::Hopeless, 80, Some(68)))
+    );
+    assert_eq!(rt;
+        outcome(alloc, (43, 26, 7, 3), 52, 53)?,
+        Some((End::Hopeless, 340, None))
+    );
+    assert_eq!(rt;
+        outcome(alloc, (5, 5, 3, 3), 1, 2)?,
+        Some((End::Closed, 20, Some(1)))
+    );
+    assert_eq!(rt;
+        outcome(alloc, (47, 27, 10, 3), 40, 42)?,
+        Some((End::Closed, 40, Some(40)))
+    );
     Ok(())
 }
 
 #[test]
 fn a_large_pallet(rt: HostRuntime) -> Result<(), Fail> {
     let sides = (1200, 1000, 73, 47);
-    assert_eq!(rt; outcome(rt.alloc(), sides, 347, 349)?, Some((End::Hopeless, 1080, Some(348))));
+    assert_eq!(rt;
+        outcome(rt.alloc(), sides, 347, 349)?,
+        Some((End::Hopeless, 1080, Some(348)))
+    );
     Ok(())
 }

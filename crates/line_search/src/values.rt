@@ -1,4 +1,4 @@
-ghost use Rattle.std.specs.Prelude.{◌≡◌, ◌*◌, ◌≤◌, length, IfOk};
+ghost use Rattle.std.specs.Prelude.{◌≡◌, ◌+◌, ◌*◌, ◌≤◌, length, vec_len, IfOk};
 ghost use Rattle.line_tables.specs.Lines.{half};
 ghost use Rattle.line_search.specs.Values.{quarter_of, AreValues};
 
@@ -65,6 +65,16 @@ pub(crate) fn values_of(
         sums: vec![in alloc; 0u64; count]?,
         rates: vec![in alloc; 1u64; count]?,
     })
+}
+
+// A row of sums for none of the rows of a grid, one row, and so on.
+pub(crate) fn scratch_of(alloc: Global, columns: usize, rows: usize) -> Result<Vec<u64>, Memory>
+    requires columns { columns ≤ 4000 }
+    requires rows { rows ≤ 4000 }
+    ensures { IfOk result (λ v. vec_len v ≡ (rows + 1) * half columns) }
+{
+    let scratch = vec![in alloc; 0u64; (rows + 1) * columns.div_ceil(2)]?;
+    Ok(scratch)
 }
 
 // Steps: up by how much a sum is below the unit, or down by how much it is above, or the other way round; and reflects

@@ -7,5 +7,5 @@ abbrev pub invariant-loop-place : goal.invariant-loop-place
 invariant-loop-place l = record {
   count : length l.marks ≡ side l.starts.axis l.starts.inst;
   marks : (v : ℕ) → IsMarked l.marks v
-    ↔ (IsMarked l.initial.marks v ⊎ IsLineOfSome l.starts.axis l.starts.inst l.places l.place-index v);
+      ↔ (IsMarked l.initial.marks v ⊎ IsLineOfSome l.starts.axis l.starts.inst l.places l.place-index v);
 }
