@@ -93,4 +93,3 @@ planned-count rows floors are = sym (entries_count floors) ∙ as_many 1 rows (e
 pub all-planned : (rows : List Row) (floors : List FloorRow) → ArePlanned rows floors → AreFirstPlanned rows floors
 all-planned rows floors are =
     subst (λ (rs : List Row). ArePlanned rs floors) (sym (take_all (2 * length floors) rows (omega (arith, planned-count rows floors are)))) are
-

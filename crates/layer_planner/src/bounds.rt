@@ -38,6 +38,7 @@ pub fn by_weights(alloc: Global, bound: u32, weighting: Weighting) -> Result<Kno
 fn by_lead(alloc: Global, given: Inst, reduced: Inst, lead: &Weighting) -> Result<Known, Memory>
     requires same { SameSides given reduced }
     requires fits { CaseFits reduced }
+    requires few { area_bound_of reduced ≤ 10000 }
     requires lead { IsLead reduced lead.now }
     ensures known { IfOk result (λ k. IsKnown given reduced k) }
     ensures family { IfOk result (λ k. IsAtMostFamily reduced k.bound) }
