@@ -1,17 +1,17 @@
 -- The line of a table's columns or rows is read exactly.
-use Rattle.std.proofs.Common.{◌≡◌, ℕ, zero, suc, ◌+◌, ◌≤◌, ◌<◌, List, [], ◌∷◌, ◌++◌, length, map, refl, sym, ap, subst, ◌∙◌, arith, true, false, Bool, leb, ltb, get_or, inl, inr}
-use Rattle.std.specs.Prelude.{decimal, ◌&&◌}
+use Rattle.std.proofs.Common.{◌≡◌, ℕ, zero, suc, ◌+◌, ◌≤◌, ◌<◌, List, [], ◌∷◌, ◌++◌, length, map, refl, sym, ap, subst, ◌∙◌, arith, true, false, Bool, leb, ltb, eq-eqb, get_or, inl, inr}
+use Rattle.std.specs.Prelude.{decimal, ◌&&◌, ◌*◌}
 use Rattle.std.specs.Int.{div_ceil}
 use Rattle.std.specs.List.{list_all, AllByRecursion}
 use Rattle.std.specs.List.Sorted.{IsStrictlyIncreasing}
 use Rattle.std.proofs.lemmas.Bool.{cases_Bool, leb-true, le-leb, ltb-true, lt-ltb}
 use Rattle.std.proofs.lemmas.List.{append-nil}
 use Rattle.std.proofs.lemmas.List.Sums.{AllPass-from_list_all, list_all-from_AllPass}
-use Rattle.line_tables.specs.Lines.{half, AreLines}
+use Rattle.line_tables.specs.Lines.{Lines, half, AreLines, IsLineTable}
 use Rattle.texts.specs.Lines.{spaced}
 use Rattle.texts.specs.Words.{◌>>=◌, numbers_by}
 use Rattle.texts.proofs.Parsers.{Parses, both_true, parses_behind, parses_then, parses_as, parses_checked, AreNumbers, numbers_parse, numbers_solid, IsWord, words_spaced, ReadsLine, reads_line}
-use Rattle.cert_text.specs.Ranges.{are_rising, are_lines}
+use Rattle.cert_text.specs.Ranges.{are_rising, are_lines, are_weights}
 use Rattle.cert_text.specs.Text.{lines_words}
 use Rattle.cert_text.specs.Words.{checked, lines_at, lines_of}
 
@@ -99,6 +99,13 @@ pub axis_lines_are : (lines : List ℕ) → AreLines lines → are_lines lines �
 axis_lines_are lines h =
     let low : list_all (λ line. leb line 3999) lines ≡ true = list_all-from_AllPass (λ line. leb line 3999) lines (λ i d l. le-leb _ _ (let p = h.low i d l in omega arith)) in
     rw (low, is_rising lines h.rising) refl
+
+-- the lines and the weights of each table on lines are within the ranges
+pub table_fits : (t : Lines) → IsLineTable t → (are_lines t.columns && (are_lines t.rows && are_weights (half (length t.rows) * half (length t.columns)) t.quarter)) ≡ true
+table_fits t h =
+    let light : list_all (λ w. leb w 100000) t.quarter ≡ true = list_all-from_AllPass (λ w. leb w 100000) t.quarter (λ i d l. le-leb _ _ (h.light i d l)) in
+    let weights : are_weights (half (length t.rows) * half (length t.columns)) t.quarter ≡ true = rw (eq-eqb (length t.quarter) (half (length t.rows) * half (length t.columns)) h.count, light) refl in
+    rw (axis_lines_are t.columns h.columns, axis_lines_are t.rows h.rows, weights) refl
 
 -- a test that answers whether numbers rise is the one of the definition
 pub rising_tested : (ns : List ℕ) (r : Bool) → (r ≡ true → IsStrictlyIncreasing ns) × (IsStrictlyIncreasing ns → r ≡ true) → r ≡ are_rising ns

@@ -1,40 +1,17 @@
 -- The rows of a table are read exactly, one after the other.
-use Rattle.std.proofs.Common.{◌≡◌, ℕ, zero, suc, ◌≤◌, ◌+◌, ◌*◌, List, [], ◌∷◌, ◌++◌, length, take, drop, Option, Ok, refl, sym, ap, subst, ◌∙◌, arith, true, eqb, leb, eq-eqb}
-use Rattle.std.specs.Prelude.{◌&&◌}
+use Rattle.std.proofs.Common.{◌≡◌, ℕ, zero, suc, ◌+◌, ◌*◌, List, [], ◌∷◌, ◌++◌, length, take, drop, Option, Ok, refl, sym, ap, ◌∙◌, arith, true, leb}
 use Rattle.std.specs.List.{list_all, AllByRecursion}
-use Rattle.std.proofs.lemmas.Bool.{leb-true, le-leb, eqb-true}
 use Rattle.std.proofs.lemmas.List.{length-append, append-nil, length-take, length-drop, take-append-drop, take_at, drop_at}
 use Rattle.std.proofs.lemmas.List.Folds.{list_all-append}
-use Rattle.std.proofs.lemmas.List.Sums.{AllPass-from_list_all}
-use Rattle.std.proofs.Math.Nat.{mul_comm}
 use Rattle.texts.specs.Lines.{spaced}
 use Rattle.texts.specs.Grammar.{Reads, ◌>>=◌, first_by}
 use Rattle.texts.proofs.LineEnds.{IsPlain}
 use Rattle.texts.proofs.Readers.{reads_first, reads_none, reads_then, reads_as}
 use Rattle.texts.proofs.Parsers.{both_true, plain_spaced, ReadsLine, AreNumbers}
-use Rattle.weightings.specs.Table.{CellTable, IsTable}
-use Rattle.weightings.specs.declared.kinds.Weighting.{Weighting}
-use Rattle.weightings.specs.declared.kinds.Weighting.TheVariants as weightings
-use Rattle.weightings.specs.declared.certs.Mark.{Mark}
-use Rattle.weightings.specs.declared.certs.Mark.TheVariants.{Leaf}
-use Rattle.weightings.specs.declared.certs.StripCut.{StripCut}
-use Rattle.weightings.specs.declared.certs.StripCut.TheVariants as cuts
-use Rattle.weightings.specs.declared.certs.Cert.{Cert}
-use Rattle.weightings.specs.declared.certs.Cert.TheVariants as certs
-use Rattle.cert_text.specs.Forms.{most_cuts, has_tables}
-use Rattle.cert_text.specs.Ranges.{are_sides, are_weights, is_weighting, is_tree, is_cut, are_cuts, InRange}
-use Rattle.cert_text.specs.Text.{weighting_words, row_words, row_lines, rows_of, weighting_lines, cut_words, cut_lines, tree_line, cert_lines}
-use Rattle.cert_text.specs.Words.{weight_line_of, row_of, tree_of, cut_of, head_of}
-use Rattle.cert_text.specs.Lines.{rows_from, weighting_of, weighting_from, cuts_from, body_of, cert_at}
-use Rattle.cert_text.specs.declared.forms.Form.{Form}
-use Rattle.cert_text.specs.declared.words.WeightLine.{WeightLine}
-use Rattle.cert_text.specs.declared.words.WeightLine.TheVariants as weight_lines
-use Rattle.cert_text.specs.declared.words.Head.{Head}
-use Rattle.cert_text.specs.declared.words.Head.TheVariants as heads
-use Rattle.cert_text.proofs.WeightWords.{GoodLine, line_words, weight_line_reads, weight_line_solid}
-use Rattle.cert_text.proofs.CutWords.{GoodCut, cut_reads, cut_solid}
-use Rattle.cert_text.proofs.HeadWords.{GoodHead, head_words, head_reads, head_solid, few_cuts, some_cuts}
-use Rattle.cert_text.proofs.RowWords.{row_reads, row_solid, tree_reads, tree_plain}
+use Rattle.cert_text.specs.Text.{row_words, row_lines}
+use Rattle.cert_text.specs.Words.{row_of}
+use Rattle.cert_text.specs.Lines.{rows_from}
+use Rattle.cert_text.proofs.RowWords.{row_reads, row_solid}
 
 -- a reader of one line
 pub by_line : {A : Type 0} (text : A → List ℕ) (Fits : A → Type 0) (f : List ℕ → Option A) → ReadsLine text Fits f → (example : A) → Fits example → Reads (λ a. text a ∷ []) Fits (first_by f)

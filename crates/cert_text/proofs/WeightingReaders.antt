@@ -1,47 +1,35 @@
 -- A weighting is read exactly, line by line.
-use Rattle.std.proofs.Common.{◌≡◌, ℕ, zero, suc, ◌≤◌, ◌+◌, ◌*◌, List, [], ◌∷◌, ◌++◌, length, take, drop, Option, Ok, refl, sym, ap, subst, ◌∙◌, arith, true, eqb, leb, eq-eqb}
+use Rattle.std.proofs.Common.{◌≡◌, ℕ, ◌≤◌, ◌*◌, List, [], ◌∷◌, ◌++◌, length, Ok, refl, sym, ap, subst, ◌∙◌, arith, true, eqb, leb, eq-eqb}
 use Rattle.std.specs.Prelude.{◌&&◌}
 use Rattle.std.specs.List.{list_all, AllByRecursion}
-use Rattle.std.proofs.lemmas.Bool.{leb-true, le-leb, eqb-true}
-use Rattle.std.proofs.lemmas.List.{length-append, append-nil, length-take, length-drop, take-append-drop, take_at, drop_at}
-use Rattle.std.proofs.lemmas.List.Folds.{list_all-append}
+use Rattle.std.proofs.lemmas.Bool.{leb-true, eqb-true}
+use Rattle.std.proofs.lemmas.List.{append-nil}
 use Rattle.std.proofs.lemmas.List.Sums.{AllPass-from_list_all}
 use Rattle.std.proofs.Math.Nat.{mul_comm}
 use Rattle.texts.specs.Lines.{spaced}
 use Rattle.texts.specs.Grammar.{Reads, ◌>>=◌, first_by}
 use Rattle.texts.proofs.LineEnds.{IsPlain}
-use Rattle.texts.proofs.Readers.{reads_first, reads_none, reads_then, reads_as}
-use Rattle.texts.proofs.Parsers.{both_true, plain_spaced, ReadsLine, AreNumbers}
+use Rattle.texts.proofs.Readers.{reads_none, reads_then, reads_as}
+use Rattle.texts.proofs.Parsers.{both_true, plain_spaced}
 use Rattle.weightings.specs.Table.{CellTable, IsTable}
 use Rattle.weightings.specs.declared.kinds.Weighting.{Weighting}
 use Rattle.weightings.specs.declared.kinds.Weighting.TheVariants as weightings
-use Rattle.weightings.specs.declared.certs.Mark.{Mark}
-use Rattle.weightings.specs.declared.certs.Mark.TheVariants.{Leaf}
-use Rattle.weightings.specs.declared.certs.StripCut.{StripCut}
-use Rattle.weightings.specs.declared.certs.StripCut.TheVariants as cuts
-use Rattle.weightings.specs.declared.certs.Cert.{Cert}
-use Rattle.weightings.specs.declared.certs.Cert.TheVariants as certs
-use Rattle.cert_text.specs.Forms.{most_cuts, has_tables}
-use Rattle.cert_text.specs.Ranges.{are_sides, are_weights, is_weighting, is_tree, is_cut, are_cuts, InRange}
-use Rattle.cert_text.specs.Text.{weighting_words, row_words, row_lines, rows_of, weighting_lines, cut_words, cut_lines, tree_line, cert_lines}
-use Rattle.cert_text.specs.Words.{weight_line_of, row_of, tree_of, cut_of, head_of}
-use Rattle.cert_text.specs.Lines.{rows_from, weighting_of, weighting_from, cuts_from, body_of, cert_at}
+use Rattle.cert_text.specs.Forms.{has_tables}
+use Rattle.cert_text.specs.Ranges.{are_sides, are_weights, is_weighting}
+use Rattle.cert_text.specs.Text.{weighting_words, row_lines, rows_of, weighting_lines}
+use Rattle.cert_text.specs.Words.{weight_line_of}
+use Rattle.cert_text.specs.Lines.{rows_from, weighting_of, weighting_from}
 use Rattle.cert_text.specs.declared.forms.Form.{Form}
 use Rattle.cert_text.specs.declared.words.WeightLine.{WeightLine}
 use Rattle.cert_text.specs.declared.words.WeightLine.TheVariants as weight_lines
-use Rattle.cert_text.specs.declared.words.Head.{Head}
-use Rattle.cert_text.specs.declared.words.Head.TheVariants as heads
 use Rattle.cert_text.proofs.WeightWords.{GoodLine, line_words, weight_line_reads, weight_line_solid}
-use Rattle.cert_text.proofs.CutWords.{GoodCut, cut_reads, cut_solid}
-use Rattle.cert_text.proofs.HeadWords.{GoodHead, head_words, head_reads, head_solid, few_cuts, some_cuts}
-use Rattle.cert_text.proofs.RowWords.{row_reads, row_solid, tree_reads, tree_plain}
 use Rattle.std.specs.Prelude.{codes}
 use Rattle.line_tables.specs.Lines.{Lines, half, IsLineTable}
 use Rattle.cert_text.specs.Ranges.{are_counts, are_lines, are_rising}
 use Rattle.cert_text.specs.Text.{lines_words}
 use Rattle.cert_text.specs.Words.{lines_of}
 use Rattle.cert_text.proofs.LineWords.{AreSoMany, places, places_are_lines, lines_read, lines_solid, are_axis_lines}
-use Rattle.cert_text.proofs.RowReaders.{by_line, AreLight, AreCells, rows_read, row_lines_plain, length-row_lines}
+use Rattle.cert_text.proofs.RowReaders.{by_line, AreCells, rows_read, row_lines_plain, length-row_lines}
 
 -- ---- a weighting
 

@@ -159,11 +159,13 @@ fn has_text(rt: &HostRuntime, lines: (&[u32], &[u32], &[u32]), text: &[u8]) -> R
         weighting: Weighting::Lines(table),
         tree: Marks::new(marks),
     };
-    let in_two_alone = is_in_range(&cert, Form::Two) && !is_in_range(&cert, Form::One);
+    if is_in_range(&cert, Form::One) || !is_in_range(&cert, Form::Two) {
+        return Ok(false);
+    }
     let mut out = Vec::new(alloc);
     put_cert(&mut out, &cert)?;
     let (_, len) = get_cert(alloc, text, Form::Two)?;
-    Ok(in_two_alone && out.as_slice() == text && len == text.len())
+    Ok(out.as_slice() == text && len == text.len())
 }
 
 #[test]

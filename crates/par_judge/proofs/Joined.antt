@@ -31,6 +31,17 @@ paired-append R (a ∷ xs) cs [] ds p q = absurd (omega (arith, p.as_many))
 paired-append R (a ∷ xs) cs (b ∷ bs) ds p q =
     paired-cons R a b (xs ++ cs) (bs ++ ds) (p.each 0 a b refl refl) (paired-append R xs cs bs ds (paired-rest R a b xs bs p) q)
 
+-- ---- verdicts beside their entries
+
+pub verdicts-none : AreVerdicts [] []
+verdicts-none = paired-none IsVerdict
+
+pub verdicts-cons : (e : Entry) (v : Verdict) (es : List Entry) (vs : List Verdict) → IsVerdict e v → AreVerdicts es vs → AreVerdicts (e ∷ es) (v ∷ vs)
+verdicts-cons = paired-cons IsVerdict
+
+pub verdicts-append : (es fs : List Entry) (vs ws : List Verdict) → AreVerdicts es vs → AreVerdicts fs ws → AreVerdicts (es ++ fs) (vs ++ ws)
+verdicts-append = paired-append IsVerdict
+
 pub one-list : (es : List Entry) (vs : List Verdict) → AreVerdicts es vs → AreOnlyVerdicts es vs
 one-list [] [] a [] b = refl
 one-list [] [] a (w ∷ ws) b = absurd (omega (arith, b.as_many))
@@ -40,6 +51,8 @@ one-list (e ∷ es) (v ∷ vs) a [] b = absurd (omega (arith, b.as_many))
 one-list (e ∷ es) (v ∷ vs) a (w ∷ ws) b =
     ap (λ x. x ∷ ws) (one-verdict e v (a.each 0 e v refl refl) w (b.each 0 e w refl refl))
     ∙ ap (λ l. v ∷ l) (one-list es vs (paired-rest IsVerdict e v es vs a) ws (paired-rest IsVerdict e w es ws b))
+
+-- ---- one more, and one part more
 
 -- one more on each side
 pub paired-push : {A B : Type 0} (R : A → B → Type 0) (xs : List A) (i : ℕ) (a : A) (b : B) (bs : List B) → i < length xs → a ≡ get_or xs i a → R a b → ArePaired R (take i xs) bs → ArePaired R (take (i + 1) xs) (bs ++ b ∷ [])

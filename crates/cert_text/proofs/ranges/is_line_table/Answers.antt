@@ -1,20 +1,10 @@
-use Rattle.std.proofs.Common.{◌≡◌, ◌*◌, ◌∙◌, ap, sym, Bool, true, false, leb, eq-eqb, length, refl}
+use Rattle.std.proofs.Common.{◌≡◌, ◌*◌, ◌∙◌, ap, sym, Bool, true, false, length, refl}
 use Rattle.std.specs.Prelude.{◌&&◌}
-use Rattle.std.specs.List.{list_all}
-use Rattle.std.proofs.lemmas.Bool.{le-leb}
-use Rattle.std.proofs.lemmas.List.Sums.{list_all-from_AllPass}
-use Rattle.line_tables.specs.Lines.{Lines, half, IsLineTable}
+use Rattle.line_tables.specs.Lines.{half}
 use Rattle.cert_text.specs.Forms.{has_tables}
 use Rattle.cert_text.specs.Ranges.{are_counts, are_lines, are_weights}
-use Rattle.cert_text.proofs.LineWords.{axis_lines_are}
+use Rattle.cert_text.proofs.LineWords.{table_fits}
 use Rattle.cert_text.proofs.ranges.is_line_table.Goals as goal
-
--- the lines and the weights of each table on lines are within the ranges
-table_fits : (t : Lines) → IsLineTable t → (are_lines t.columns && (are_lines t.rows && are_weights (half (length t.rows) * half (length t.columns)) t.quarter)) ≡ true
-table_fits t h =
-    let light : list_all (λ w. leb w 100000) t.quarter ≡ true = list_all-from_AllPass (λ w. leb w 100000) t.quarter (λ i d l. le-leb _ _ (h.light i d l)) in
-    let weights : are_weights (half (length t.rows) * half (length t.columns)) t.quarter ≡ true = rw (eq-eqb (length t.quarter) (half (length t.rows) * half (length t.columns)) h.count, light) refl in
-    rw (axis_lines_are t.columns h.columns, axis_lines_are t.rows h.rows, weights) refl
 
 and_true : (b : Bool) → b ≡ (b && true)
 and_true true = refl
