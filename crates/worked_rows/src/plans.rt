@@ -187,7 +187,7 @@ fn tables(rt: HostRuntime) -> Result<(), Fail> {
     for (row, counts) in rows {
         let parts = [
             counts,
-            "\ncert weighted\nweighting table ",
+            "\ncert weighted\nweighting lines ",
             "\ntree .\nlayers ",
         ];
         assert!(rt; planned(&rt, rt.alloc(), row, parts.as_slice())?);
