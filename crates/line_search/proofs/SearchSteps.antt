@@ -1,5 +1,5 @@
 -- Better and better tables.
-use Rattle.std.proofs.Common.{◌≡◌, ℕ, ◌<◌, ◌≤◌, ◌⊎◌, inl, inr, Option, Some, None, sym, ap, subst, ◌∙◌, refl, arith}
+use Rattle.std.proofs.Common.{◌≡◌, ℕ, ◌<◌, ◌≤◌, inl, inr, Option, Some, None, sym, ap, subst, arith}
 use Rattle.std.specs.Option.{IfSome}
 use Rattle.line_search.specs.declared.search.Bounding.{Bounding}
 use Rattle.line_search.specs.Search.{Found, IsLesser, IsImproved}

@@ -1,4 +1,4 @@
-use Rattle.std.proofs.Common.{◌∙◌, ◌≤◌, min, max, arith}
+use Rattle.std.proofs.Common.{◌∙◌, arith}
 use Rattle.line_search.proofs.SearchSteps.{improved-again, limit-of-same}
 use Rattle.line_search.proofs.search.LineSearch.run.Goals as goal
 

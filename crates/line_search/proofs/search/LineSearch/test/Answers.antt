@@ -1,5 +1,4 @@
-use Rattle.std.proofs.Common.{◌≡◌, ◌∙◌, ◌<◌, inl, sym, subst}
-use Rattle.line_search.specs.Search.{IsImproved}
+use Rattle.std.proofs.Common.{◌∙◌, ◌<◌, inl}
 use Rattle.line_search.proofs.SearchSteps.{improved-by, best-of-same}
 use Rattle.line_search.proofs.search.LineSearch.test.Goals as goal
 use Rattle.line_search.proofs.search.LineSearch.test.Goals.{in-Some-2, in_default-2}
