@@ -14,7 +14,7 @@ TWO_LAYERS = HEADER + b"A,5,5,3,2,1,10,2,1000,100,1,20\n"
 SAID = {
     0: b"",
     1: b"pallet: some rows or entries were not accepted\n",
-    2: b"usage: pallet plan [--draw] | check [--workers N] | upgrade | choose | check-choice | trial --number N\n",
+    2: b"usage: pallet plan [--draw] [--workers N] | check [--workers N] | upgrade | choose | check-choice | floor | check-floor | trial --number N\n",
     3: b"pallet: input too long\n",
     4: b"pallet: no header\n",
     5: b"pallet: too many rows\n",

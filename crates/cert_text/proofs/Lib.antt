@@ -3,6 +3,9 @@ pub mod WeightWords
 pub mod CutWords
 pub mod HeadWords
 pub mod RowWords
+pub mod LineWords
+pub mod RowReaders
+pub mod WeightingReaders
 pub mod CertReaders
 pub mod CutLoop
 pub mod RowLoop

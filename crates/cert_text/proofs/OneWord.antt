@@ -35,3 +35,14 @@ four_is {A} text a1 a2 a3 a4 w a e =
       | inl p ↦ (bytes_eq-Decides w (text a1)).0 p.0 ∙ ap text (some_is a1 a p.1)
       | inr q ↦ three_is text a2 a3 a4 w a q.1
     ]
+
+-- what one of five words says
+abbrev pub five_of : {A : Type 0} → List ℕ → List ℕ → List ℕ → List ℕ → List ℕ → A → A → A → A → A → List ℕ → Option A
+five_of t1 t2 t3 t4 t5 a1 a2 a3 a4 a5 w = cond (bytes_eq w t1) (Some a1) (four_of t2 t3 t4 t5 a2 a3 a4 a5 w)
+
+pub five_is : {A : Type 0} (text : A → List ℕ) (a1 a2 a3 a4 a5 : A) (w : List ℕ) (a : A) → five_of (text a1) (text a2) (text a3) (text a4) (text a5) a1 a2 a3 a4 a5 w ≡ Some a → w ≡ text a
+five_is {A} text a1 a2 a3 a4 a5 w a e =
+    elim (pick (bytes_eq w (text a1)) (Some a1) (four_of (text a2) (text a3) (text a4) (text a5) a2 a3 a4 a5 w) (Some a) e) [
+      | inl p ↦ (bytes_eq-Decides w (text a1)).0 p.0 ∙ ap text (some_is a1 a p.1)
+      | inr q ↦ four_is text a2 a3 a4 a5 w a q.1
+    ]

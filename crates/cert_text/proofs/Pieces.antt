@@ -48,6 +48,12 @@ pub rows_more : (start out new : List ℕ) (x_side i : ℕ) (cells : List ℕ) �
 rows_more start out new x_side i cells before now =
     line_more start out new (row_lines x_side i cells) (row_lines x_side (i + 1) cells) (spaced (row_words (take x_side (drop (i * x_side) cells)))) before now (ap (λ (n : ℕ). row_lines x_side n cells) (add-one i) ∙ row_lines-more x_side i cells)
 
+-- what is left behind one row more
+pub rest_more : (x_side i : ℕ) (cells rest after : List ℕ) → rest ≡ drop (i * x_side) cells → after ≡ drop x_side rest → after ≡ drop ((i + 1) * x_side) cells
+rest_more x_side i cells rest after before now =
+    let n : i * x_side + x_side ≡ (i + 1) * x_side = omega arith in
+    now ∙ ap (λ (t : List ℕ). drop x_side t) before ∙ drop-drop x_side (i * x_side) cells ∙ ap (λ (k : ℕ). drop k cells) n
+
 -- the weights of a row, each behind a space
 abbrev pub behind_spaces : List ℕ → List ℕ
 behind_spaces cells = spaced ([] ∷ map decimal cells)
@@ -56,12 +62,22 @@ cell_more : (xs : List ℕ) (i : ℕ) → i < length xs → behind_spaces (take 
 cell_more xs i lt =
     ap (flat_map (λ v. 32 ∷ v)) (map_more decimal xs i 0 lt) ∙ flat_map-append (λ v. 32 ∷ v) (map decimal (take i xs)) (decimal (get_or xs i 0) ∷ []) ∙ ap (λ (t : List ℕ). behind_spaces (take i xs) ++ t) (append-nil (32 ∷ decimal (get_or xs i 0)))
 
+-- one number more behind a space
+pub numbers_more : (start out new : List ℕ) (i : ℕ) (xs : List ℕ) → i < length xs → out ≡ start ++ behind_spaces (take i xs) → new ≡ out ++ 32 ∷ decimal (get_or xs i 0) → new ≡ start ++ behind_spaces (take (i + 1) xs)
+numbers_more start out new i xs lt before now =
+    now ∙ ap (λ (t : List ℕ). t ++ 32 ∷ decimal (get_or xs i 0)) before ∙ append_assoc start (behind_spaces (take i xs)) (32 ∷ decimal (get_or xs i 0)) ∙ ap (λ (t : List ℕ). start ++ t) (sym (cell_more xs i lt))
+
 pub cells_more : (start out new : List ℕ) (x_side y_side y i : ℕ) (cells : List ℕ) → i < x_side → y < y_side → length cells ≡ x_side * y_side → out ≡ start ++ behind_spaces (take i (drop (y * x_side) cells)) → new ≡ out ++ 32 ∷ decimal (get_or cells (y * x_side + i) 0) → new ≡ start ++ behind_spaces (take (i + 1) (drop (y * x_side) cells))
 cells_more start out new x_side y_side y i cells lt row count before now =
     let xs = drop (y * x_side) cells in
     let room : suc y * x_side ≤ y_side * x_side = mul-le (suc y) x_side y_side x_side (omega arith) (omega arith) in
     let here : i < length (drop (y * x_side) cells) = omega (arith, length-drop (y * x_side) cells) in
     now ∙ ap (λ (t : List ℕ). t ++ 32 ∷ decimal (get_or cells (y * x_side + i) 0)) before ∙ append_assoc start (behind_spaces (take i xs)) (32 ∷ decimal (get_or cells (y * x_side + i) 0)) ∙ ap (λ (t : List ℕ). start ++ t) (ap (λ (n : ℕ). behind_spaces (take i xs) ++ 32 ∷ decimal n) (sym (get_or-drop (y * x_side) cells i 0)) ∙ sym (cell_more xs i here))
+
+-- ---- the first line of a table on lines
+
+pub counts_text : (k m : ℕ) (behind : List ℕ) → (codes "weighting lines " ++ decimal k) ++ ((codes " " ++ decimal m) ++ (codes "\n" ++ behind)) ≡ ended (spaced (codes "weighting" ∷ codes "lines" ∷ decimal k ∷ decimal m ∷ [])) ++ behind
+counts_text k m behind = simp append_assoc
 
 -- ---- marks
 

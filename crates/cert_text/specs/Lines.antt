@@ -1,12 +1,13 @@
 -- Reading a certificate line by line.
-use Rattle.std.specs.Prelude.{ℕ, zero, suc, ◌+◌, List, [], ◌∷◌, ◌++◌, Ok}
+use Rattle.std.specs.Prelude.{ℕ, zero, suc, ◌+◌, List, [], ◌∷◌, ◌++◌, codes, Ok}
 use Rattle.texts.specs.Grammar.{Reading, ◌>>=◌, first_by}
+use Rattle.line_tables.specs.Lines.{half}
 use Rattle.weightings.specs.declared.kinds.Weighting.{Weighting}
 use Rattle.weightings.specs.declared.kinds.Weighting.TheVariants as weightings
 use Rattle.weightings.specs.declared.certs.StripCut.{StripCut}
 use Rattle.weightings.specs.declared.certs.Cert.{Cert}
 use Rattle.weightings.specs.declared.certs.Cert.TheVariants as certs
-use Rattle.cert_text.specs.Words.{weight_line_of, row_of, tree_of, cut_of, head_of}
+use Rattle.cert_text.specs.Words.{weight_line_of, row_of, lines_of, tree_of, cut_of, head_of}
 use Rattle.cert_text.specs.declared.forms.Form.{Form}
 use Rattle.cert_text.specs.declared.words.WeightLine.{WeightLine}
 use Rattle.cert_text.specs.declared.words.WeightLine.TheVariants as weight_lines
@@ -29,6 +30,11 @@ weighting_of (weight_lines.Comb p a r b) ls = Ok (weightings.Comb p a r b, ls)
 weighting_of (weight_lines.Table x y) ls = do
   cells ← rows_from x y ls
   Ok (weightings.Table (record { x_side = x; y_side = y; cells = cells.0 }), cells.1)
+weighting_of (weight_lines.Lines k m) ls = do
+  columns ← first_by (lines_of (codes "columns") k) ls
+  rows ← first_by (lines_of (codes "rows") m) columns.1
+  quarter ← rows_from (half k) (half m) rows.1
+  Ok (weightings.Lines (record { columns = columns.0; rows = rows.0; quarter = quarter.0 }), quarter.1)
 
 unfoldable pub weighting_from : Form → List (List ℕ) → Reading (List ℕ) Weighting
 weighting_from form ls = do

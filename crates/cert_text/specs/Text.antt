@@ -1,6 +1,7 @@
 -- The one spelling of each certificate.
 use Rattle.std.specs.Prelude.{ℕ, zero, suc, ◌+◌, List, [], ◌∷◌, ◌++◌, length, map, take, drop, codes, decimal}
 use Rattle.texts.specs.Lines.{spaced, text_of}
+use Rattle.line_tables.specs.Lines.{half}
 use Rattle.weightings.specs.declared.kinds.Weighting.{Weighting}
 use Rattle.weightings.specs.declared.kinds.Weighting.TheVariants as weightings
 use Rattle.weightings.specs.declared.certs.Mark.{Mark}
@@ -16,9 +17,14 @@ weighting_words weightings.Area = codes "weighting" ∷ codes "area" ∷ []
 weighting_words (weightings.Colour k c) = codes "weighting" ∷ codes "colour" ∷ decimal k ∷ decimal c ∷ []
 weighting_words (weightings.Comb p a r b) = codes "weighting" ∷ codes "comb" ∷ decimal p ∷ decimal a ∷ decimal r ∷ decimal b ∷ []
 weighting_words (weightings.Table t) = codes "weighting" ∷ codes "table" ∷ decimal t.x_side ∷ decimal t.y_side ∷ []
+weighting_words (weightings.Lines t) = codes "weighting" ∷ codes "lines" ∷ decimal (length t.columns) ∷ decimal (length t.rows) ∷ []
 
 abbrev pub row_words : List ℕ → List (List ℕ)
 row_words cells = codes "row" ∷ map decimal cells
+
+-- columns or rows, behind the word for them
+abbrev pub lines_words : List ℕ → List ℕ → List (List ℕ)
+lines_words name lines = name ∷ map decimal lines
 
 -- so many rows of a table, from the front of its cells
 abbrev pub row_lines : ℕ → ℕ → List ℕ → List (List ℕ)
@@ -31,6 +37,7 @@ rows_of weightings.Area = []
 rows_of (weightings.Colour k c) = []
 rows_of (weightings.Comb p a r b) = []
 rows_of (weightings.Table t) = row_lines t.x_side t.y_side t.cells
+rows_of (weightings.Lines t) = spaced (lines_words (codes "columns") t.columns) ∷ spaced (lines_words (codes "rows") t.rows) ∷ row_lines (half (length t.columns)) (half (length t.rows)) t.quarter
 
 abbrev pub weighting_lines : Weighting → List (List ℕ)
 weighting_lines w = spaced (weighting_words w) ∷ rows_of w

@@ -9,7 +9,7 @@ use Rattle.weightings.specs.declared.certs.Mark.TheVariants.{Branch, Leaf}
 use Rattle.weightings.specs.declared.certs.StripCut.{StripCut}
 use Rattle.weightings.specs.declared.certs.StripCut.TheVariants as cuts
 use Rattle.cert_text.specs.Forms.{most_cuts, has_tables}
-use Rattle.cert_text.specs.Ranges.{are_sides}
+use Rattle.cert_text.specs.Ranges.{are_sides, are_counts, are_rising}
 use Rattle.cert_text.specs.declared.forms.Form.{Form}
 use Rattle.cert_text.specs.declared.words.Kind.{Kind}
 use Rattle.cert_text.specs.declared.words.Kind.TheVariants as kinds
@@ -27,7 +27,7 @@ abbrev pub checked : {A : Type 0} → A → Bool → List (List ℕ) → Option 
 checked a ok rest = if ok then Some (a, rest) else None
 
 abbrev pub kind_of : List ℕ → Option Kind
-kind_of w = if bytes_eq w (codes "area") then Some kinds.Area else if bytes_eq w (codes "colour") then Some kinds.Colour else if bytes_eq w (codes "comb") then Some kinds.Comb else if bytes_eq w (codes "table") then Some kinds.Table else None
+kind_of w = if bytes_eq w (codes "area") then Some kinds.Area else if bytes_eq w (codes "colour") then Some kinds.Colour else if bytes_eq w (codes "comb") then Some kinds.Comb else if bytes_eq w (codes "table") then Some kinds.Table else if bytes_eq w (codes "lines") then Some kinds.Lines else None
 
 -- the first line of a weighting within the form's ranges
 abbrev pub is_weight_line : Form → WeightLine → Bool
@@ -35,6 +35,7 @@ is_weight_line form weight_lines.Area = true
 is_weight_line form (weight_lines.Colour k c) = nat_le 1 k && (nat_le k 4000 && nat_lt c k)
 is_weight_line form (weight_lines.Comb p a r b) = nat_le 1 p && (nat_le p 4000 && (nat_lt a p && (nat_le 1 r && (nat_le r 4000 && nat_lt b r))))
 is_weight_line form (weight_lines.Table x y) = has_tables form && are_sides x y
+is_weight_line form (weight_lines.Lines k m) = has_tables form && are_counts k m
 
 unfoldable pub weight_line_of_kind : Form → Kind → List (List ℕ) → Option (WeightLine × List (List ℕ))
 weight_line_of_kind form kinds.Area ws = Some (weight_lines.Area, ws)
@@ -52,6 +53,10 @@ weight_line_of_kind form kinds.Table ws = do
   x ← word_by (number_up_to 4000) ws
   y ← word_by (number_up_to 4000) x.1
   checked (weight_lines.Table x.0 y.0) (is_weight_line form (weight_lines.Table x.0 y.0)) y.1
+weight_line_of_kind form kinds.Lines ws = do
+  k ← word_by (number_up_to 4000) ws
+  m ← word_by (number_up_to 4000) k.1
+  checked (weight_lines.Lines k.0 m.0) (is_weight_line form (weight_lines.Lines k.0 m.0)) m.1
 
 unfoldable pub weight_line_at : Form → List (List ℕ) → Option (WeightLine × List (List ℕ))
 weight_line_at form ws = do
@@ -69,6 +74,16 @@ row_at x_side ws = do
 
 unfoldable pub row_of : ℕ → List ℕ → Option (List ℕ)
 row_of x_side line = all_words (row_at x_side (words_of line))
+
+-- so many rising numbers below 4,000, behind this word
+unfoldable pub lines_at : List ℕ → ℕ → List (List ℕ) → Option (List ℕ × List (List ℕ))
+lines_at name count ws = do
+  rest ← behind name ws
+  lines ← numbers_by 3999 count rest
+  checked lines.0 (are_rising lines.0) lines.1
+
+unfoldable pub lines_of : List ℕ → ℕ → List ℕ → Option (List ℕ)
+lines_of name count line = all_words (lines_at name count (words_of line))
 
 -- B and the full stop are marks
 abbrev pub is_mark : ℕ → Bool

@@ -4,7 +4,7 @@ ghost use Rattle.texts.specs.Gives.{Gives, GivesOrLeaves};
 ghost use Rattle.texts.specs.Lines.{whole_lines, unfinished};
 ghost use Rattle.texts.specs.Spelling.{FaultsAt, IsInFront};
 ghost use Rattle.weightings.specs.declared.certs.Cert.{Cert};
-ghost use Rattle.cert_text.specs.Words.{is_weight_line, weight_line_of, row_of, tree_of, cut_of, head_of};
+ghost use Rattle.cert_text.specs.Words.{is_weight_line, weight_line_of, row_of, lines_of, tree_of, cut_of, head_of};
 ghost use Rattle.cert_text.specs.Lines.{rows_from, weighting_of, weighting_from, cuts_from, body_of, cert_at};
 ghost use Rattle.cert_text.specs.Ranges.{InRange};
 ghost use Rattle.cert_text.specs.Text.{cert_lines, cert_text};
@@ -12,8 +12,9 @@ ghost use Rattle.cert_text.specs.Answers.{GivesCert, IfLine};
 
 use crate::forms::Form;
 use crate::marks::tree_line;
-use crate::rows::row_line;
+use crate::rows::{axis_line, row_line};
 use crate::words::{Head, WeightLine, cut_line, head_line, weight_line};
+use line_tables::LineTable;
 use std::alloc::Global;
 use texts::{LineStop, LinesLeft, Stop, count_lines, next_line};
 use weightings::{Cert, Marks, StripCert, StripCut, WeightTable, Weighting};
@@ -105,6 +106,47 @@ fn table_at(
     }
 }
 
+fn lines_at<'a>(
+    alloc: Global,
+    name: &[u8],
+    count: u32,
+    bytes: &'a [u8],
+) -> Result<(Vec<u32>, &'a [u8]), Stop>
+    ensures read { Gives (λ x. (x.0.items, whole_lines x.1.now)) result (first_by (lines_of name.now count) (whole_lines bytes.now)) }
+    ensures rest { IfOk result (λ x. unfinished x.1.now ≡ unfinished bytes.now) }
+{
+    let Some((line, rest)) = next_line(bytes) else {
+        return Err(Stop::Left(0));
+    };
+    match axis_line(alloc, name, count, line) {
+        Ok(lines) => Ok((lines, rest)),
+        Err(LineStop::Memory) => Err(Stop::Memory),
+        Err(LineStop::Fault) => Err(Stop::Left(count_lines(bytes))),
+    }
+}
+
+// The table on so many columns and rows.
+#[tactic(auto, unfolding(crate::specs::Lines::weighting_of))]
+fn line_table_at(
+    alloc: Global,
+    form: Form,
+    column_count: u32,
+    row_count: u32,
+    bytes: &[u8],
+) -> Result<(Weighting, &[u8]), Stop>
+    requires { is_weight_line form (WeightLine.Lines column_count row_count) ≡ true }
+    ensures read { Gives (λ w. (w.0, whole_lines w.1.now)) result (weighting_of (WeightLine.Lines column_count row_count) (whole_lines bytes.now)) }
+    ensures rest { IfOk result (λ w. unfinished w.1.now ≡ unfinished bytes.now) }
+{
+    let (columns, rest) = lines_at(alloc, b"columns", column_count, bytes)?;
+    let (rows, rest) = lines_at(alloc, b"rows", row_count, rest)?;
+    let (quarter, rest) = rows_at(alloc, column_count.div_ceil(2), row_count.div_ceil(2), rest)?;
+    match LineTable::new(alloc, columns, rows, quarter)? {
+        Some(table) => Ok((Weighting::Lines(table), rest)),
+        None => unreachable!(),
+    }
+}
+
 #[tactic(auto, unfolding(crate::specs::Lines::weighting_of, crate::specs::Lines::weighting_from))]
 fn weighting_at(alloc: Global, form: Form, bytes: &[u8]) -> Result<(Weighting, &[u8]), Stop>
     ensures read { Gives (λ x. (x.0, whole_lines x.1.now)) result (weighting_from form (whole_lines bytes.now)) }
@@ -116,6 +158,7 @@ fn weighting_at(alloc: Global, form: Form, bytes: &[u8]) -> Result<(Weighting, &
         WeightLine::Colour { k, c } => Ok((Weighting::Colour { k, c }, rest)),
         WeightLine::Comb { p, a, r, b } => Ok((Weighting::Comb { p, a, r, b }, rest)),
         WeightLine::Table { x, y } => table_at(alloc, form, x, y, rest),
+        WeightLine::Lines { columns, rows } => line_table_at(alloc, form, columns, rows, rest),
     }
 }
 

@@ -1,13 +1,15 @@
 ghost use Rattle.std.specs.Prelude.{◌≡◌, ◌≤◌, ◌<◌, ◌*◌, ◌++◌, ◌∷◌, [], length, map, take, drop, decimal, codes, OnOk, OnErr, true};
 ghost use Rattle.std.specs.List.{list_all};
+ghost use Rattle.line_tables.specs.Lines.{half};
 ghost use Rattle.texts.specs.Lines.{ended, spaced, text_of};
 ghost use Rattle.texts.specs.Puts.{Puts};
 ghost use Rattle.cert_text.specs.Forms.{most_cuts};
 ghost use Rattle.cert_text.specs.Ranges.{InRange, is_cut};
-ghost use Rattle.cert_text.specs.Text.{weighting_words, weighting_lines, row_words, row_lines, mark_byte as byte_of, tree_line, cut_words, cut_lines, cert_text};
+ghost use Rattle.cert_text.specs.Text.{weighting_words, weighting_lines, row_words, lines_words, rows_of, row_lines, mark_byte as byte_of, tree_line, cut_words, cut_lines, cert_text};
 
 use crate::forms::Form;
 use crate::marks::mark_byte;
+use line_tables::LineTable;
 use plan_memory::Memory;
 use texts::{put_named, put_text};
 use weightings::{Cert, Mark, StripCut, WeightTable, Weighting};
@@ -116,6 +118,74 @@ fn put_table(out: &mut Vec<u8>, table: &WeightTable) -> Result<(), Memory>
     put_rows(out, table)
 }
 
+// Appends numbers, each behind a space.
+#[tactic(auto, using(texts::proofs::Growth::grows_after))]
+fn put_numbers(out: &mut Vec<u8>, numbers: &[u32]) -> Result<(), Memory>
+    ensures { Puts out.old.items out.new.items (spaced ([] ∷ map decimal numbers.now)) result }
+{
+    for number in numbers {
+        put_named(out, b" ", u64::from(*number))?;
+    }
+    Ok(())
+}
+
+// Appends a line of a word and numbers.
+#[tactic(auto, using(texts::proofs::Growth::grows_after))]
+fn put_number_line(out: &mut Vec<u8>, name: &[u8], numbers: &[u32]) -> Result<(), Memory>
+    ensures { Puts out.old.items out.new.items (ended (spaced (lines_words name.now numbers.now))) result }
+{
+    put_text(out, name)?;
+    put_numbers(out, numbers)?;
+    put_text(out, b"\n")
+}
+
+// Appends so many rows of so many weights.
+#[tactic(auto, using(texts::proofs::Growth::grows_after))]
+fn put_weight_rows(
+    out: &mut Vec<u8>,
+    width: usize,
+    count: usize,
+    weights: &[u32],
+) -> Result<(), Memory>
+    requires { length weights.now ≡ count * width }
+    ensures { Puts out.old.items out.new.items (text_of (row_lines width count weights.now)) result }
+{
+    let mut rest = weights;
+    for _row in 0..count {
+        let (row, after) = rest.split_at(width);
+        put_number_line(out, b"row", row)?;
+        rest = after;
+    }
+    Ok(())
+}
+
+// Appends the lines of a table's columns, rows and weights.
+#[tactic(auto, using(texts::proofs::Growth::grows_after))]
+fn put_crossings(out: &mut Vec<u8>, table: &LineTable) -> Result<(), Memory>
+    ensures { Puts out.old.items out.new.items (text_of (rows_of (Weighting.Lines table.now))) result }
+{
+    let (columns, rows) = (table.columns(), table.rows());
+    put_number_line(out, b"columns", columns)?;
+    put_number_line(out, b"rows", rows)?;
+    put_weight_rows(
+        out,
+        columns.len().div_ceil(2),
+        rows.len().div_ceil(2),
+        table.quarter(),
+    )
+}
+
+// Appends the lines of a table on few columns and rows.
+#[tactic(auto, using(texts::proofs::Growth::grows_after))]
+fn put_line_table(out: &mut Vec<u8>, table: &LineTable) -> Result<(), Memory>
+    ensures { Puts out.old.items out.new.items (text_of (weighting_lines (Weighting.Lines table.now))) result }
+{
+    put_named(out, b"weighting lines ", table.columns().len() as u64)?;
+    put_named(out, b" ", table.rows().len() as u64)?;
+    put_text(out, b"\n")?;
+    put_crossings(out, table)
+}
+
 // Appends the lines of a weighting.
 fn put_weighting(out: &mut Vec<u8>, weighting: &Weighting) -> Result<(), Memory>
     ensures { Puts out.old.items out.new.items (text_of (weighting_lines weighting.now)) result }
@@ -125,6 +195,7 @@ fn put_weighting(out: &mut Vec<u8>, weighting: &Weighting) -> Result<(), Memory>
         Weighting::Colour { k, c } => put_colour(out, k, c),
         Weighting::Comb { p, a, r, b } => put_comb(out, p, a, r, b),
         Weighting::Table(ref table) => put_table(out, table),
+        Weighting::Lines(ref table) => put_line_table(out, table),
     }
 }
 

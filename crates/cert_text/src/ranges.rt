@@ -4,7 +4,8 @@ ghost use Rattle.cert_text.specs.Ranges.{is_weighting as is_weighting_value, is_
 
 use crate::forms::{Form, has_tables, most_cuts};
 use crate::limits::{MOST_MARKS, MOST_QUANTITY, MOST_SIDE};
-use crate::words::{are_sides, is_colour, is_comb};
+use crate::words::{are_counts, are_sides, is_colour, is_comb};
+use line_tables::LineTable;
 use weightings::{Cert, Mark, StripCut, WeightTable, Weighting};
 
 // Whether a table has a text in the form.
@@ -16,6 +17,14 @@ fn is_table(form: Form, table: &WeightTable) -> bool
     has_tables(form) && are_sides(x, y)
 }
 
+// Whether a table on lines has a text in the form: each has, where the form has tables.
+fn is_line_table(form: Form, table: &LineTable) -> bool
+    ensures { result ≡ is_weighting_value form (Weighting.Lines table.now) }
+{
+    let (columns, rows) = (table.columns(), table.rows());
+    has_tables(form) && are_counts(columns.len() as u32, rows.len() as u32)
+}
+
 // Whether a weighting has a text in the form.
 fn is_weighting(form: Form, weighting: &Weighting) -> bool
     ensures { result ≡ is_weighting_value form weighting.now }
@@ -25,6 +34,7 @@ fn is_weighting(form: Form, weighting: &Weighting) -> bool
         Weighting::Colour { k, c } => is_colour(k, c),
         Weighting::Comb { p, a, r, b } => is_comb(p, a, r, b),
         Weighting::Table(ref table) => is_table(form, table),
+        Weighting::Lines(ref table) => is_line_table(form, table),
     }
 }
 

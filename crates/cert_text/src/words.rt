@@ -2,11 +2,12 @@ ghost use Rattle.std.specs.Prelude.{◌≡◌, ◌&&◌, nat_le, nat_lt, Some, N
 ghost use Rattle.texts.specs.Gives.{GivesOption};
 ghost use Rattle.texts.specs.Lines.{words_left};
 ghost use Rattle.texts.specs.Words.{word_by};
-ghost use Rattle.cert_text.specs.Ranges.{are_sides as are_sides_value};
+ghost use Rattle.cert_text.specs.Ranges.{are_sides as are_sides_value, are_counts as are_counts_value};
 ghost use Rattle.cert_text.specs.Words.{is_weight_line as is_weight_line_value, kind_of, weight_line_of_kind, weight_line_of, cut_kind_of, cut_of_kind, cut_of, head_kind_of, head_of_kind, head_of};
 
 use crate::forms::{Form, has_tables, most_cuts};
 use crate::limits::{MOST_QUANTITY, MOST_SIDE};
+use line_tables::MOST_LISTED;
 use texts::{is_end, next_word, number_word, skip_word, this_number_word};
 use weightings::{MOST_CELLS, StripCut};
 
@@ -33,6 +34,7 @@ pub enum WeightLine {
     Colour { k: u32, c: u32 },
     Comb { p: u32, a: u32, r: u32, b: u32 },
     Table { x: u32, y: u32 },
+    Lines { columns: u32, rows: u32 },
 }
 
 /// The second word of the first line of a weighting.
@@ -42,6 +44,7 @@ pub enum Kind {
     Colour,
     Comb,
     Table,
+    Lines,
 }
 
 /// The third word of the line of a cut.
@@ -78,6 +81,17 @@ pub(crate) fn are_sides(x: u32, y: u32) -> bool
             && (1 <= y && (y <= MOST_SIDE && u64::from(x) * u64::from(y) <= MOST_CELLS)))
 }
 
+// Whether a table on so many columns and rows has a text.
+pub(crate) fn are_counts(columns: u32, rows: u32) -> bool
+    ensures { result ≡ are_counts_value columns rows }
+{
+    1 <= columns
+        && (columns <= MOST_SIDE
+            && (1 <= rows
+                && (rows <= MOST_SIDE
+                    && (columns.div_ceil(2) * rows.div_ceil(2)) as usize <= MOST_LISTED)))
+}
+
 // Whether the first line of a weighting is within the form's ranges.
 fn is_weight_line(form: Form, line: WeightLine) -> bool
     ensures { result ≡ is_weight_line_value form line }
@@ -87,6 +101,7 @@ fn is_weight_line(form: Form, line: WeightLine) -> bool
         WeightLine::Colour { k, c } => is_colour(k, c),
         WeightLine::Comb { p, a, r, b } => is_comb(p, a, r, b),
         WeightLine::Table { x, y } => has_tables(form) && are_sides(x, y),
+        WeightLine::Lines { columns, rows } => has_tables(form) && are_counts(columns, rows),
     }
 }
 
@@ -102,6 +117,8 @@ fn kind_word(words: Option<&[u8]>) -> Option<(Kind, Option<&[u8]>)>
         Some((Kind::Comb, rest))
     } else if word == b"table".as_slice() {
         Some((Kind::Table, rest))
+    } else if word == b"lines".as_slice() {
+        Some((Kind::Lines, rest))
     } else {
         None
     }
@@ -165,6 +182,24 @@ fn table_words(form: Form, words: Option<&[u8]>) -> Option<(WeightLine, Option<&
     }
 }
 
+// How many columns and rows a table on lines has.
+#[tactic(auto, unfolding(crate::specs::Words::weight_line_of_kind))]
+fn count_words(form: Form, words: Option<&[u8]>) -> Option<(WeightLine, Option<&[u8]>)>
+    ensures { GivesOption (λ x. (x.0, words_left x.1)) result (weight_line_of_kind form Kind.Lines (words_left words.entry)) }
+{
+    let (columns, rest) = number_word(words, MOST_NUMBER)?;
+    let (rows, rest) = number_word(rest, MOST_NUMBER)?;
+    let line = WeightLine::Lines {
+        columns: columns as u32,
+        rows: rows as u32,
+    };
+    if is_weight_line(form, line) {
+        Some((line, rest))
+    } else {
+        None
+    }
+}
+
 #[tactic(auto, unfolding(crate::specs::Words::weight_line_of_kind))]
 fn kind_words(form: Form, kind: Kind, words: Option<&[u8]>) -> Option<(WeightLine, Option<&[u8]>)>
     ensures { GivesOption (λ x. (x.0, words_left x.1)) result (weight_line_of_kind form kind (words_left words.entry)) }
@@ -174,6 +209,7 @@ fn kind_words(form: Form, kind: Kind, words: Option<&[u8]>) -> Option<(WeightLin
         Kind::Colour => colour_words(form, words),
         Kind::Comb => comb_words(form, words),
         Kind::Table => table_words(form, words),
+        Kind::Lines => count_words(form, words),
     }
 }
 

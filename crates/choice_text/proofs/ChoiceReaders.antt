@@ -30,7 +30,7 @@ use Rattle.choice_text.proofs.NumberedLines.{numbered_line, numbered_reads, pass
 abbrev done_word : List ℕ
 done_word = codes "done"
 
-abbrev first_byte : List ℕ → ℕ
+abbrev pub first_byte : List ℕ → ℕ
 first_byte [] = 0
 first_byte (b ∷ bytes) = b
 
@@ -165,7 +165,7 @@ abbrev is_entry_line : ℕ → List ℕ → Bool
 is_entry_line number line = is_some (numbered_of (codes "entry") number line)
 
 -- an entry whose first line is known is read after that line
-entry_here : (number : ℕ) (l : List ℕ) (ls : List (List ℕ)) → IsWithin 256 number → l ≡ entry_line number → entry_at Two (l ∷ ls) ≡ entry_behind Two number ls
+pub entry_here : (number : ℕ) (l : List ℕ) (ls : List (List ℕ)) → IsWithin 256 number → l ≡ entry_line number → entry_at Two (l ∷ ls) ≡ entry_behind Two number ls
 unfolding entry_at
 entry_here number l ls within same =
     let back : number_of_line Two l ≡ Some number = ap (number_of_line Two) same ∙ (named_reads (codes "entry") 256 (omega arith) refl).back number within in

@@ -17,8 +17,8 @@ fn numbered_line(line: &[u8], word: &[u8], number: u32) -> Option<u64>
     if is_end(rest) { Some(number) } else { None }
 }
 
-// Whether the first line is that of the entry of this number.
-pub(crate) fn entry_follows(bytes: &[u8], number: u32) -> bool
+/// Whether the first line is that of the entry of this number.
+pub fn entry_follows(bytes: &[u8], number: u32) -> bool
     ensures { result ≡ entry_in_front number (whole_lines bytes.now) }
 {
     match next_line(bytes) {
@@ -27,8 +27,9 @@ pub(crate) fn entry_follows(bytes: &[u8], number: u32) -> bool
     }
 }
 
-// The number of entries, by the line that ends a choice's text, and the bytes after it.
-pub(crate) fn done_at(bytes: &[u8], count: u32) -> Result<(u64, &[u8]), LinesLeft>
+/// The number of entries, by the last line of a text that has this number, and the bytes after it. At any other line it
+/// answers how many lines are left, that one among them.
+pub fn done_at(bytes: &[u8], count: u32) -> Result<(u64, &[u8]), LinesLeft>
     ensures read { GivesOrLeaves (λ x. (x.0, whole_lines x.1.now)) result (first_by (numbered_of (codes "done") count) (whole_lines bytes.now)) }
     ensures rest { IfOk result (λ x. unfinished x.1.now ≡ unfinished bytes.now) }
 {

@@ -24,13 +24,19 @@ mod tests {
         Ok(mode_of(alloc, &words)?)
     }
 
+    fn plan(draw: bool, workers: u32) -> Mode {
+        Mode::Plan { draw, workers }
+    }
+
     #[test]
     fn accepted_words(rt: HostRuntime) -> Result<(), Fail> {
         let lines = [
-            ("plan", Mode::Plan { draw: false }),
-            ("plan --draw", Mode::Plan { draw: true }),
-            ("--draw plan", Mode::Plan { draw: true }),
-            ("--draw -- plan", Mode::Plan { draw: true }),
+            ("plan", plan(false, 1)),
+            ("plan --draw", plan(true, 1)),
+            ("--draw plan", plan(true, 1)),
+            ("--draw -- plan", plan(true, 1)),
+            ("plan --workers 4", plan(false, 4)),
+            ("--workers 16 --draw plan", plan(true, 16)),
             ("check", Mode::Check { workers: 1 }),
             ("check --workers 16", Mode::Check { workers: 16 }),
             ("--workers=+4 check", Mode::Check { workers: 4 }),
@@ -38,6 +44,8 @@ mod tests {
             ("upgrade", Mode::Upgrade),
             ("choose", Mode::Choose),
             ("check-choice", Mode::CheckChoice),
+            ("floor", Mode::Floor),
+            ("check-floor", Mode::CheckFloor),
             ("trial --number 1", Mode::Trial { number: 1 }),
             ("trial --number=007", Mode::Trial { number: 7 }),
             ("trial --number 1000000", Mode::Trial { number: 1_000_000 }),
@@ -55,7 +63,8 @@ mod tests {
             "draw",
             "Plan",
             "plan plan",
-            "plan --workers 2",
+            "plan --workers 0",
+            "plan --workers 17",
             "plan --draw --draw",
             "plan --draw=true",
             "plan -d",
@@ -79,6 +88,10 @@ mod tests {
             "check-choice --workers 2",
             "check-choice --number 1",
             "check_choice",
+            "floor --draw",
+            "floor --workers 2",
+            "check-floor --workers 2",
+            "check-floor --number 1",
             "trial",
             "trial --number 0",
             "trial --number 1000001",

@@ -5,8 +5,8 @@ ghost use Rattle.command_words.specs.Accepted.{are_absent as no_options, mode_wi
 /// What the program can be asked to do.
 #[derive(Clone, Copy, PartialEq, Eq, Debug)]
 pub enum Mode {
-    /// Read orders and write a report of their layers; where `draw` says so, write drawings.
-    Plan { draw: bool },
+    /// Read orders and write a report of their layers, by 1 to 16 workers; where `draw` says so, write drawings.
+    Plan { draw: bool, workers: u32 },
     /// Read a report and write a verdict for each entry, by 1 to 16 workers.
     Check { workers: u32 },
     /// Read a report of either form and write it in the newer one.
@@ -15,6 +15,10 @@ pub enum Mode {
     Choose,
     /// Read what `choose` wrote, and write a verdict for each entry and one for the choice.
     CheckChoice,
+    /// Read rows of trucks and their pallets, and write what fits on each floor.
+    Floor,
+    /// Read what `floor` wrote, and write a verdict for each entry and one for each total.
+    CheckFloor,
     /// Plan and check orders that are made from a number, 1 to 1,000,000.
     Trial { number: u32 },
 }
@@ -45,14 +49,18 @@ pub fn mode_for(word: &str, options: Options) -> Option<Mode>
         draw,
         number,
     } = options;
+    let count = workers.unwrap_or(1);
     match word {
-        "plan" if workers.is_none() && number.is_none() => Some(Mode::Plan { draw }),
-        "check" if !draw && number.is_none() => Some(Mode::Check {
-            workers: workers.unwrap_or(1),
+        "plan" if number.is_none() => Some(Mode::Plan {
+            draw,
+            workers: count,
         }),
+        "check" if !draw && number.is_none() => Some(Mode::Check { workers: count }),
         "upgrade" if absent => Some(Mode::Upgrade),
         "choose" if absent => Some(Mode::Choose),
         "check-choice" if absent => Some(Mode::CheckChoice),
+        "floor" if absent => Some(Mode::Floor),
+        "check-floor" if absent => Some(Mode::CheckFloor),
         "trial" if !draw && workers.is_none() => number.map(|number| Mode::Trial { number }),
         _ => None,
     }

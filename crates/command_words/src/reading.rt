@@ -15,7 +15,7 @@ use plan_memory::Memory;
 use std::alloc::Global;
 
 /// The mode that the words after the program's name ask for: None exactly where the command line does not take them, or
-/// an option stands with another mode than its own. Without `--workers` a check has one worker.
+/// an option stands with another mode than its own. Without `--workers` there is one worker.
 pub fn mode_of(alloc: Global, words: &[String]) -> Result<Option<Mode>, Memory>
     ensures mode { IfOk result (λ mode. mode ≡ accepted (map string_bytes words.now)) }
     ensures in_range { IfOk result (λ mode. IfSome mode IsInRange) }

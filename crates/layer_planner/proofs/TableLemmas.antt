@@ -10,16 +10,17 @@ use Rattle.plan_geometry.specs.Layout.{IsLayout}
 use Rattle.plan_geometry.proofs.Counting.{bounded_by_weight}
 use Rattle.partitions.specs.Partitions.{SameSides}
 use Rattle.weightings.specs.declared.kinds.Weighting.{Weighting}
-use Rattle.weightings.specs.declared.kinds.Weighting.TheVariants.{Table}
+use Rattle.weightings.specs.declared.kinds.Weighting.TheVariants.{Table, Lines as ByLines}
 use Rattle.weightings.specs.declared.certs.Mark.TheVariants.{Leaf}
 use Rattle.weightings.specs.declared.certs.Cert.TheVariants as certs
 use Rattle.weightings.specs.Table.{CellTable, cell_of, IsCellTable}
 use Rattle.weightings.specs.Weighting.{weight_of, IsLawfulWeighting, IsWeightBound}
-use Rattle.weightings.proofs.LeadSteps.{IsWeightBound-unique}
 use Rattle.dual_search.specs.Dual.{IsDual}
 use Rattle.dual_search.proofs.OneDual.{one_dual}
 use Rattle.cert_text.specs.declared.forms.Form.TheVariants.{Two}
-use Rattle.cert_text.specs.Ranges.{are_sides, are_weights, is_weighting}
+use Rattle.line_tables.specs.Lines.{Lines, half, IsLineTable}
+use Rattle.cert_text.specs.Ranges.{are_sides, are_counts, are_weights, is_weighting}
+use Rattle.cert_text.proofs.LineWords.{table_fits}
 use Rattle.layer_planner.specs.declared.bounds.Known.{Known}
 use Rattle.layer_planner.specs.Quality.{IsTable, IsAtMostDual}
 use Rattle.layer_planner.specs.Known.{IsKnown}
@@ -39,6 +40,15 @@ pub table-text : (I : Inst) (t : CellTable) → IsCellTable t → t.x_side ≡ I
 table-text I t h ex ey =
     let s = I.sides in
     both _ _ (sides-text t.x_side t.y_side h.some_x (omega (arith, ex, s)) h.some_y (omega (arith, ey, s)) h.few) (weights-text t h)
+
+pub lines-text : (t : Lines) → IsLineTable t → length t.columns ≤ 4000 → length t.rows ≤ 4000 → is_weighting Two (ByLines t) ≡ true
+lines-text t h columns rows =
+    let k = length t.columns in
+    let m = length t.rows in
+    let turn : half m * half k ≡ half k * half m = mul_comm (half m) (half k) in
+    let few : half k * half m ≤ 40000 = omega (arith, turn, h.count, h.few) in
+    let counts : are_counts k m ≡ true = both _ _ (le-leb 1 k h.columns.some) (both _ _ (le-leb k 4000 columns) (both _ _ (le-leb 1 m h.rows.some) (both _ _ (le-leb m 4000 rows) (le-leb (half k * half m) 40000 few)))) in
+    both _ _ counts (table_fits t h)
 
 pub table-known : (given reduced : Inst) (g : Weighting) (n : ℕ) → SameSides given reduced → IsTable g → IsLawfulWeighting reduced g → is_weighting Two g ≡ true → IsWeightBound reduced (weight_of g) n
     → IsKnown given reduced (record { bound = n; cert = certs.Weighted g (Leaf ∷ []) })
@@ -64,12 +74,10 @@ reached-dual I bound spots le l t n few d w = let m = layer-within I (cell_of t)
 pub one-table : (I : Inst) (rounds : ℕ) (t u : CellTable) → IsDual I rounds (Some t) → IsDual I rounds (Some u) → t ≡ u
 one-table I rounds t u x y = cc (one_dual I rounds (Some t) (Some u) x y)
 
-pub dual-is : (I : Inst) (t : CellTable) (n bound : ℕ) → IsDual I 2000 (Some t) → IsWeightBound I (cell_of t) n → bound ≤ n → IsAtMostDual I bound
-dual-is I t n bound d w le u m few e v =
+pub dual-is : (I : Inst) (t : CellTable) (bound : ℕ) → IsDual I 2000 (Some t) → ((n : ℕ) → IsWeightBound I (cell_of t) n → bound ≤ n) → IsAtMostDual I bound
+dual-is I t bound d le u m few e v =
     let same : u ≡ t = one-table I 2000 u t e d in
-    let v2 : IsWeightBound I (cell_of t) m = subst (λ x. IsWeightBound I (cell_of x) m) same v in
-    let s = IsWeightBound-unique I (cell_of t) n m w v2 in
-    omega (arith, le, s)
+    le m (subst (λ x. IsWeightBound I (cell_of x) m) same v)
 
 pub dual-none : (I : Inst) (bound : ℕ) → IsDual I 2000 None → IsAtMostDual I bound
 dual-none I bound d t n few e w = absurd (apart (one_dual I 2000 None (Some t) d e))

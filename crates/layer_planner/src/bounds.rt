@@ -38,6 +38,7 @@ pub fn by_weights(alloc: Global, bound: u32, weighting: Weighting) -> Result<Kno
 fn by_lead(alloc: Global, given: Inst, reduced: Inst, lead: &Weighting) -> Result<Known, Memory>
     requires same { SameSides given reduced }
     requires fits { CaseFits reduced }
+    requires few { area_bound_of reduced ≤ 10000 }
     requires lead { IsLead reduced lead.now }
     ensures known { IfOk result (λ k. IsKnown given reduced k) }
     ensures family { IfOk result (λ k. IsAtMostFamily reduced k.bound) }
@@ -47,7 +48,7 @@ fn by_lead(alloc: Global, given: Inst, reduced: Inst, lead: &Weighting) -> Resul
         None => unreachable!(),
     };
     let weighting = lead.copied(alloc)?;
-    by_weights(alloc, bound, weighting)
+    by_weights(alloc, bound as u32, weighting)
 }
 
 // The bound so far, or that of the strips where it is less.

@@ -60,6 +60,8 @@ fn or_best(
         return Ok(known);
     };
     let table = best.table.copied(alloc)?;
+    prove!(table.columns().len() <= 4000);
+    prove!(table.rows().len() <= 4000);
     or_table(alloc, given, reduced, known, Weighting::Lines(table))
 }
 

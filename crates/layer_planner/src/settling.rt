@@ -5,11 +5,11 @@ ghost use Rattle.partitions.specs.Partitions.{SameSides};
 ghost use Rattle.layer_planner.specs.Known.{IsKnown, IsPlaced, IsSettled};
 
 use crate::bounds::{Known, least_known};
-use crate::search::{Searched, search};
 use crate::guides::{Limits, guided, start_search};
+use crate::search::{Searched, search};
 use crate::tables::or_dual;
-use line_search::MOST_TURNS;
 use layer_patterns::{layer_by_blocks, layer_by_regions};
+use line_search::MOST_TURNS;
 use plan_geometry::{Inst, Layer};
 use plan_memory::Memory;
 use std::alloc::Global;

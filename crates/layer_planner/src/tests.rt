@@ -54,7 +54,8 @@ fn is_colour(plan: &Plan, side: u32, rest: u32) -> bool {
     match plan.cert {
         Cert::Weighted { ref weighting, .. } => match *weighting {
             Weighting::Colour { k, c } => k == side && c == rest,
-            Weighting::Area | Weighting::Comb { .. } | Weighting::Table(_) => false,
+            Weighting::Area | Weighting::Comb { .. } | Weighting::Table(_) | Weighting::Lines(_) =>
+                false,
         },
         Cert::Strip(_) | Cert::GivenArea => false,
     }
@@ -64,7 +65,7 @@ fn is_colour(plan: &Plan, side: u32, rest: u32) -> bool {
 fn is_table(plan: &Plan) -> bool {
     match plan.cert {
         Cert::Weighted { ref weighting, .. } => match *weighting {
-            Weighting::Table(_) => true,
+            Weighting::Table(_) | Weighting::Lines(_) => true,
             Weighting::Area | Weighting::Colour { .. } | Weighting::Comb { .. } => false,
         },
         Cert::Strip(_) | Cert::GivenArea => false,

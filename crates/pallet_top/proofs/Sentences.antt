@@ -6,29 +6,31 @@ use Rattle.plan_io.specs.Streams.{Intake, Outlet}
 use Rattle.run_parts.specs.declared.codes.Code.{Code}
 use Rattle.run_parts.specs.declared.codes.Code.TheVariants.{Done, Findings, Usage, TooLong, NoHeader, TooManyRows, BadReport, ReadFault, WriteFault, Memory}
 use Rattle.command_words.specs.declared.modes.Mode.{Mode}
-use Rattle.command_words.specs.declared.modes.Mode.TheVariants.{Plan, Check, Upgrade, Choose, CheckChoice, Trial}
+use Rattle.command_words.specs.declared.modes.Mode.TheVariants.{Plan, Check, Upgrade, Choose, CheckChoice, Floor, CheckFloor, Trial}
 use Rattle.pallet_top.specs.Runs.{Ran, NothingIsWritten, FaultsHaveTheirCause, LinesAreOfBadReports}
 
 -- a run that is refused memory before it touches its streams
 pub memory_ran : (mode : Mode) (from : Intake) (to : Outlet) → Ran mode from to Memory 0 from to
-memory_ran (Plan draw) from to = (record { read = []; wrote = []; given = sym (append-nil from.given); taken = sym (append-nil to.taken); source_later = omega arith; sink_later = omega arith; means = (inl refl, refl, omega arith) }, refl)
+memory_ran (Plan draw workers) from to = (record { read = []; wrote = []; given = sym (append-nil from.given); taken = sym (append-nil to.taken); source_later = omega arith; sink_later = omega arith; means = (inl refl, refl, omega arith) }, refl)
 memory_ran (Check workers) from to = record { read = []; wrote = []; given = sym (append-nil from.given); taken = sym (append-nil to.taken); source_later = omega arith; sink_later = omega arith; means = (inl refl, refl, refl, omega arith, refl) }
 memory_ran Upgrade from to = record { read = []; wrote = []; given = sym (append-nil from.given); taken = sym (append-nil to.taken); source_later = omega arith; sink_later = omega arith; means = (inl refl, refl, refl, omega arith, refl) }
 memory_ran Choose from to = (record { read = []; wrote = []; given = sym (append-nil from.given); taken = sym (append-nil to.taken); source_later = omega arith; sink_later = omega arith; means = (inl refl, refl, omega arith) }, refl)
 memory_ran CheckChoice from to = record { read = []; wrote = []; given = sym (append-nil from.given); taken = sym (append-nil to.taken); source_later = omega arith; sink_later = omega arith; means = (inl refl, refl, refl, omega arith, refl) }
+memory_ran Floor from to = (record { read = []; wrote = []; given = sym (append-nil from.given); taken = sym (append-nil to.taken); source_later = omega arith; sink_later = omega arith; means = (inl refl, refl, omega arith) }, refl)
+memory_ran CheckFloor from to = record { read = []; wrote = []; given = sym (append-nil from.given); taken = sym (append-nil to.taken); source_later = omega arith; sink_later = omega arith; means = (inl refl, refl, refl, omega arith, refl) }
 memory_ran (Trial number) from to = (record { wrote = []; taken = sym (append-nil to.taken); sink_later = omega arith; means = refl }, (refl, refl))
 
 pub nothing : NothingIsWritten
-nothing (Plan draw) from to Done line from' to' ran w = absurd w
-nothing (Plan draw) from to Findings line from' to' ran w = absurd w
-nothing (Plan draw) from to Usage line from' to' ran w = absurd ran.0.means
-nothing (Plan draw) from to TooLong line from' to' ran w = ran.0.means.1
-nothing (Plan draw) from to NoHeader line from' to' ran w = ran.0.means.2
-nothing (Plan draw) from to TooManyRows line from' to' ran w = ran.0.means.2
-nothing (Plan draw) from to BadReport line from' to' ran w = absurd ran.0.means
-nothing (Plan draw) from to ReadFault line from' to' ran w = ran.0.means.2
-nothing (Plan draw) from to WriteFault line from' to' ran w = absurd w
-nothing (Plan draw) from to Memory line from' to' ran w = absurd w
+nothing (Plan draw workers) from to Done line from' to' ran w = absurd w
+nothing (Plan draw workers) from to Findings line from' to' ran w = absurd w
+nothing (Plan draw workers) from to Usage line from' to' ran w = absurd ran.0.means
+nothing (Plan draw workers) from to TooLong line from' to' ran w = ran.0.means.1
+nothing (Plan draw workers) from to NoHeader line from' to' ran w = ran.0.means.2
+nothing (Plan draw workers) from to TooManyRows line from' to' ran w = ran.0.means.2
+nothing (Plan draw workers) from to BadReport line from' to' ran w = absurd ran.0.means
+nothing (Plan draw workers) from to ReadFault line from' to' ran w = ran.0.means.2
+nothing (Plan draw workers) from to WriteFault line from' to' ran w = absurd w
+nothing (Plan draw workers) from to Memory line from' to' ran w = absurd w
 nothing (Check workers) from to Done line from' to' ran w = absurd w
 nothing (Check workers) from to Findings line from' to' ran w = absurd w
 nothing (Check workers) from to Usage line from' to' ran w = absurd ran.means
@@ -69,6 +71,26 @@ nothing CheckChoice from to BadReport line from' to' ran w = ran.means.1
 nothing CheckChoice from to ReadFault line from' to' ran w = ran.means.2
 nothing CheckChoice from to WriteFault line from' to' ran w = absurd w
 nothing CheckChoice from to Memory line from' to' ran w = absurd w
+nothing Floor from to Done line from' to' ran w = absurd w
+nothing Floor from to Findings line from' to' ran w = absurd w
+nothing Floor from to Usage line from' to' ran w = absurd ran.0.means
+nothing Floor from to TooLong line from' to' ran w = ran.0.means.1
+nothing Floor from to NoHeader line from' to' ran w = ran.0.means.2
+nothing Floor from to TooManyRows line from' to' ran w = ran.0.means.2
+nothing Floor from to BadReport line from' to' ran w = absurd ran.0.means
+nothing Floor from to ReadFault line from' to' ran w = ran.0.means.2
+nothing Floor from to WriteFault line from' to' ran w = absurd w
+nothing Floor from to Memory line from' to' ran w = absurd w
+nothing CheckFloor from to Done line from' to' ran w = absurd w
+nothing CheckFloor from to Findings line from' to' ran w = absurd w
+nothing CheckFloor from to Usage line from' to' ran w = absurd ran.means
+nothing CheckFloor from to TooLong line from' to' ran w = ran.means.1
+nothing CheckFloor from to NoHeader line from' to' ran w = absurd ran.means
+nothing CheckFloor from to TooManyRows line from' to' ran w = absurd ran.means
+nothing CheckFloor from to BadReport line from' to' ran w = ran.means.1
+nothing CheckFloor from to ReadFault line from' to' ran w = ran.means.2
+nothing CheckFloor from to WriteFault line from' to' ran w = absurd w
+nothing CheckFloor from to Memory line from' to' ran w = absurd w
 nothing (Trial number) from to Done line from' to' ran w = absurd w
 nothing (Trial number) from to Findings line from' to' ran w = absurd w
 nothing (Trial number) from to Usage line from' to' ran w = absurd ran.0.means
@@ -82,35 +104,43 @@ nothing (Trial number) from to Memory line from' to' ran w = absurd w
 
 -- the cause of a fault, by the mode
 read_cause : (mode : Mode) (from : Intake) (to : Outlet) (line : ℕ) (from' : Intake) (to' : Outlet) → Ran mode from to ReadFault line from' to' → Rose from.faults from'.faults
-read_cause (Plan draw) from to line from' to' ran = ran.0.means.1
+read_cause (Plan draw workers) from to line from' to' ran = ran.0.means.1
 read_cause (Check workers) from to line from' to' ran = ran.means.1
 read_cause Upgrade from to line from' to' ran = ran.means.1
 read_cause Choose from to line from' to' ran = ran.0.means.1
 read_cause CheckChoice from to line from' to' ran = ran.means.1
+read_cause Floor from to line from' to' ran = ran.0.means.1
+read_cause CheckFloor from to line from' to' ran = ran.means.1
 read_cause (Trial number) from to line from' to' ran = absurd ran.0.means
 
 write_cause : (mode : Mode) (from : Intake) (to : Outlet) (line : ℕ) (from' : Intake) (to' : Outlet) → Ran mode from to WriteFault line from' to' → Rose to.faults to'.faults
-write_cause (Plan draw) from to line from' to' ran = ran.0.means.2
+write_cause (Plan draw workers) from to line from' to' ran = ran.0.means.2
 write_cause (Check workers) from to line from' to' ran = ran.means.2
 write_cause Upgrade from to line from' to' ran = ran.means.2
 write_cause Choose from to line from' to' ran = ran.0.means.2
 write_cause CheckChoice from to line from' to' ran = ran.means.2
+write_cause Floor from to line from' to' ran = ran.0.means.2
+write_cause CheckFloor from to line from' to' ran = ran.means.2
 write_cause (Trial number) from to line from' to' ran = ran.0.means.1
 
 source_later : (mode : Mode) (from : Intake) (to : Outlet) (code : Code) (line : ℕ) (from' : Intake) (to' : Outlet) → Ran mode from to code line from' to' → from.faults ≤ from'.faults
-source_later (Plan draw) from to code line from' to' ran = ran.0.source_later
+source_later (Plan draw workers) from to code line from' to' ran = ran.0.source_later
 source_later (Check workers) from to code line from' to' ran = ran.source_later
 source_later Upgrade from to code line from' to' ran = ran.source_later
 source_later Choose from to code line from' to' ran = ran.0.source_later
 source_later CheckChoice from to code line from' to' ran = ran.source_later
+source_later Floor from to code line from' to' ran = ran.0.source_later
+source_later CheckFloor from to code line from' to' ran = ran.source_later
 source_later (Trial number) from to code line from' to' ran = rw ran.1.0 (omega arith)
 
 sink_later : (mode : Mode) (from : Intake) (to : Outlet) (code : Code) (line : ℕ) (from' : Intake) (to' : Outlet) → Ran mode from to code line from' to' → to.faults ≤ to'.faults
-sink_later (Plan draw) from to code line from' to' ran = ran.0.sink_later
+sink_later (Plan draw workers) from to code line from' to' ran = ran.0.sink_later
 sink_later (Check workers) from to code line from' to' ran = ran.sink_later
 sink_later Upgrade from to code line from' to' ran = ran.sink_later
 sink_later Choose from to code line from' to' ran = ran.0.sink_later
 sink_later CheckChoice from to code line from' to' ran = ran.sink_later
+sink_later Floor from to code line from' to' ran = ran.0.sink_later
+sink_later CheckFloor from to code line from' to' ran = ran.sink_later
 sink_later (Trial number) from to code line from' to' ran = ran.0.sink_later
 
 read_of : (mode : Mode) (from : Intake) (to : Outlet) (code : Code) (line : ℕ) (from' : Intake) (to' : Outlet) → Ran mode from to code line from' to' → code ≡ ReadFault → Rose from.faults from'.faults
@@ -146,7 +176,7 @@ causes mode from to code line from' to' ran = record {
 }
 
 pub lines : LinesAreOfBadReports
-lines (Plan draw) from to code line from' to' ran other = ran.1
+lines (Plan draw workers) from to code line from' to' ran other = ran.1
 lines (Check workers) from to Done line from' to' ran other = ran.means.2
 lines (Check workers) from to Findings line from' to' ran other = ran.means.2
 lines (Check workers) from to Usage line from' to' ran other = absurd ran.means
@@ -178,4 +208,15 @@ lines CheckChoice from to BadReport line from' to' ran other = absurd (other ref
 lines CheckChoice from to ReadFault line from' to' ran other = ran.means.3
 lines CheckChoice from to WriteFault line from' to' ran other = ran.means.3
 lines CheckChoice from to Memory line from' to' ran other = ran.means.4
+lines Floor from to code line from' to' ran other = ran.1
+lines CheckFloor from to Done line from' to' ran other = ran.means.2
+lines CheckFloor from to Findings line from' to' ran other = ran.means.2
+lines CheckFloor from to Usage line from' to' ran other = absurd ran.means
+lines CheckFloor from to TooLong line from' to' ran other = ran.means.2
+lines CheckFloor from to NoHeader line from' to' ran other = absurd ran.means
+lines CheckFloor from to TooManyRows line from' to' ran other = absurd ran.means
+lines CheckFloor from to BadReport line from' to' ran other = absurd (other refl)
+lines CheckFloor from to ReadFault line from' to' ran other = ran.means.3
+lines CheckFloor from to WriteFault line from' to' ran other = ran.means.3
+lines CheckFloor from to Memory line from' to' ran other = ran.means.4
 lines (Trial number) from to code line from' to' ran other = ran.1.1

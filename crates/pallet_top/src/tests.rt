@@ -83,7 +83,7 @@ fn codes(rt: HostRuntime) -> Result<(), Fail> {
     let cases = [
         ("", b"".as_slice(), Code::Usage, 0, b"".as_slice()),
         (
-            "plan --workers 2",
+            "plan --workers 17",
             header.as_slice(),
             Code::Usage,
             0,

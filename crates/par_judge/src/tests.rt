@@ -1,10 +1,11 @@
 ghost use Rattle.std.specs.Prelude.{IsTrue, All};
 ghost use Rattle.cert_text.specs.declared.forms.Form.TheVariants.{Two};
 ghost use Rattle.plan_entries.specs.Ranges.{IsInRange};
+ghost use Rattle.par_judge.specs.Planned.{IsNumbered};
 
-use crate::{Gate, OpenGate, judge_all, judge_through};
+use crate::{Gate, Numbered, OpenGate, judge_all, judge_through, plan_all, plan_through};
 use cert_text::Form;
-use order_reader::RowFault;
+use order_reader::{Order, RowFault};
 use plan_entries::{Entry, is_in_range};
 use report_checker::Verdict;
 use std::alloc::Global;
@@ -129,5 +130,69 @@ fn more_workers_than_entries(rt: HostRuntime) -> Result<(), Fail> {
     let entries = refused(rt.alloc(), 5)?;
     assert!(rt; all_refused(&rt, rt.alloc(), &OpenGate, &entries, 16)?);
     assert!(rt; all_refused(&rt, rt.alloc(), &OpenGate, &entries, 3)?);
+    Ok(())
+}
+
+// Whether each order has a number that an entry may have.
+fn are_numbered(orders: &[Numbered]) -> bool
+    ensures { IsTrue result → All IsNumbered orders.now }
+{
+    orders
+        .iter()
+        .all(|order| 1 <= order.number && order.number <= 256)
+}
+
+// Two orders with one layout each, numbered from 7 on.
+fn two_orders(alloc: Global) -> Result<Vec<Numbered>, Fail> {
+    let mut orders = Vec::new(alloc);
+    for (number, case) in [(7, 3), (8, 4)] {
+        let numbers = [5, 5, case, case, 1, 1, 1, 1, 0, 0, 100, 0];
+        let Ok(order) = Order::new(alloc, b"A".as_slice(), numbers) else {
+            return Err("no order".into());
+        };
+        orders.push(Numbered { number, order })?;
+    }
+    Ok(orders)
+}
+
+// The numbers and the counts of the plans by so many workers, who tell the gate of each order.
+fn planned<R: Threads + Sync, G: Gate + Sync>(
+    rt: &R,
+    alloc: Global,
+    gate: &G,
+    orders: &[Numbered],
+    workers: u32,
+) -> Result<Vec<(u32, u32)>, Fail> {
+    if !are_numbered(orders) || orders.len() > 256 || workers == 0 || workers > 16 {
+        return Err("numbers".into());
+    }
+    let mut told = Vec::new(alloc);
+    for plan in &plan_through(rt, alloc, gate, orders, workers)? {
+        told.push((plan.number, plan.count))?;
+    }
+    let again = plan_all(rt, alloc, orders, 16)?;
+    if again.len() != told.len() {
+        return Err("not as many".into());
+    }
+    Ok(told)
+}
+
+#[test]
+fn planned_side_by_side(rt: HostRuntime) -> Result<(), Fail> {
+    let orders = two_orders(rt.alloc())?;
+    let gate = Meeting::new();
+    let told = planned(&rt, rt.alloc(), &gate, &orders, 2)?;
+    assert!(rt; told.as_slice() == [(7, 1), (8, 1)].as_slice());
+    assert!(rt; gate.met.load(Ordering::SeqCst));
+    Ok(())
+}
+
+#[test]
+fn planned_one_by_one(rt: HostRuntime) -> Result<(), Fail> {
+    let orders = two_orders(rt.alloc())?;
+    let gate = Meeting::new();
+    let told = planned(&rt, rt.alloc(), &gate, &orders, 1)?;
+    assert!(rt; told.as_slice() == [(7, 1), (8, 1)].as_slice());
+    assert!(rt; !gate.met.load(Ordering::SeqCst));
     Ok(())
 }

@@ -60,7 +60,7 @@ cert_of p h =
     let c = both_true (cert_in_range Two p.cert) _ b.1 in
     c.0
 
-refused_in_range : (n : ℕ) (fault : RowFault) → 1 ≤ n → n ≤ 256 → IsInRange Two (Refused n fault)
+pub refused_in_range : (n : ℕ) (fault : RowFault) → 1 ≤ n → n ≤ 256 → IsInRange Two (Refused n fault)
 refused_in_range n fault low high = rw (le-leb 1 n low, le-leb n 256 high, fault_in_two fault) refl
 
 -- each entry is within the ranges, and bears its row's number

@@ -1,27 +1,10 @@
 -- The entries of a report: what each row of an orders file has in it.
 use Rattle.std.specs.Prelude.{ℕ, ◌+◌, ◌≡◌, ⊤, List, [], ◌∷◌, length, take}
-use Rattle.order_reader.specs.Orders.{OrderValue}
-use Rattle.order_reader.specs.Instances.{IsBoundFor}
 use Rattle.order_reader.specs.declared.rows.Row.{Row}
 use Rattle.order_reader.specs.declared.rows.Row.TheVariants as row
-use Rattle.cert_text.specs.declared.forms.Form.TheVariants.{Two}
-use Rattle.plan_entries.specs.declared.entries.Plan.{Plan}
 use Rattle.plan_entries.specs.declared.entries.Entry.{Entry}
 use Rattle.plan_entries.specs.declared.entries.Entry.TheVariants.{Planned, Refused}
-use Rattle.plan_entries.specs.Ranges.{IsInRange}
-use Rattle.plan_soundness.specs.Sound.{IsSound}
-use Rattle.layer_planner.specs.Quality.{HasQuality, HasShortCert}
-
--- The plan of the order of the row of this number: it echoes the order, is sound for it, and has the quality that is
--- promised; no layer of the order has more cases than its bound.
-pub record IsPlanOf (n : ℕ) (o : OrderValue) (p : Plan) : Type 0 where
-  pub number : p.number ≡ n
-  pub echo : p.order ≡ o
-  pub sound : IsSound p
-  pub quality : HasQuality p
-  pub bounded : IsBoundFor o p.bound
-  pub in_range : IsInRange Two (Planned p)
-  pub short : HasShortCert p.reduced p.cert
+use Rattle.par_judge.specs.Planned.{IsPlanOf}
 
 -- the entry of the row of this number: a plan of the very order, or the very fault
 abbrev pub IsEntryOf : ℕ → Row → Entry → Type 0

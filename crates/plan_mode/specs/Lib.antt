@@ -1,5 +1,6 @@
 pub mod OrdersFiles
 pub mod Entries
+pub mod Groups
 pub mod Pieces
 pub mod Accepted
 pub mod Reports

@@ -2,6 +2,7 @@
 #![tactic(auto)]
 
 mod entries;
+mod groups;
 mod laws;
 mod pieces;
 mod reports;

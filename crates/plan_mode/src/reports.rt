@@ -7,24 +7,41 @@ ghost use Rattle.run_parts.specs.Written.{Wrote, WrotePart};
 ghost use Rattle.plan_entries.specs.Entries.{is_refused, any_refused};
 ghost use Rattle.plan_entries.specs.declared.entries.Entry.{Entry};
 ghost use Rattle.plan_mode.specs.OrdersFiles.{HasRows, FoundNoRows};
-ghost use Rattle.plan_mode.specs.Entries.{IsEntryOf, AreEntriesOf, AreFirstEntriesOf};
+ghost use Rattle.cert_text.specs.declared.forms.Form.TheVariants.{Two};
+ghost use Rattle.plan_entries.specs.Ranges.{IsInRange};
+ghost use Rattle.plan_mode.specs.Entries.{AreEntriesOf, AreFirstEntriesOf};
 ghost use Rattle.plan_mode.specs.Accepted.{AreAccepted};
-ghost use Rattle.plan_mode.specs.Pieces.{IsPieceOf, ArePieces, joined, IsTextOf, IsPlainReport, IsBegunText, IsBrokenText};
+ghost use Rattle.plan_mode.specs.Pieces.{IsSoundEntry, IsPieceOf, ArePieces, joined, IsTextOf, IsPlainReport, IsBegunText, IsBrokenText};
 ghost use Rattle.plan_mode.specs.Runs.{PlanRan};
 
-use crate::entries::plan_row;
+use crate::groups::next_entry;
 use crate::pieces::{done, head, piece};
 use order_reader::{ReadStop, Row, read_orders};
+use par_judge::Gate;
+use plan_entries::Entry;
 use plan_io::{Sink, Source};
 use run_parts::{Code, WriteStop, read_input, send};
 use std::alloc::Global;
+use std::collections::VecDeque;
+use std::thread::Threads;
 
 // How many bytes an orders file may have.
 const MOST_BYTES: usize = 262144;
 
 /// Reads an orders file, and writes the report of its rows: the first line, then one whole piece after another, then the
-/// last line. Where `draw` is set each planned entry is followed by its drawing.
-pub fn plan<S: Source, K: Sink>(alloc: Global, draw: bool, source: &mut S, sink: &mut K) -> Code
+/// last line. Where `draw` is set each planned entry is followed by its drawing. So many workers, from 1 to 16, plan side by
+/// side, each order once the gate has been told of it; what is written is that of one worker.
+pub fn plan<R: Threads + Sync, G: Gate + Sync, S: Source, K: Sink>(
+    rt: &R,
+    alloc: Global,
+    gate: &G,
+    workers: u32,
+    draw: bool,
+    source: &mut S,
+    sink: &mut K,
+) -> Code
+    requires some { 1 ≤ workers }
+    requires limited { workers ≤ 16 }
     ensures ran { PlanRan draw (S.past source.old) (K.past sink.old) result (S.past source.new) (K.past sink.new) }
     ensures nothing { WritesNothing result → sink.new ≡ sink.old }
     // A sink that took nothing was not called, unless a write failed.
@@ -34,7 +51,7 @@ pub fn plan<S: Source, K: Sink>(alloc: Global, draw: bool, source: &mut S, sink:
         Ok(rows) => rows,
         Err(code) => return code,
     };
-    match write_report(alloc, draw, &rows, sink) {
+    match write_report(rt, alloc, gate, workers, draw, &rows, sink) {
         Ok(true) => Code::Findings,
         Ok(false) => Code::Done,
         Err(WriteStop::Fault) => Code::WriteFault,
@@ -58,13 +75,18 @@ pub fn read_rows<S: Source>(alloc: Global, source: &mut S) -> Result<Vec<Row>, C
 }
 
 // Writes the report of rows, and answers whether one was refused.
-fn write_report<K: Sink>(
+fn write_report<R: Threads + Sync, G: Gate + Sync, K: Sink>(
+    rt: &R,
     alloc: Global,
+    gate: &G,
+    workers: u32,
     draw: bool,
     rows: &[Row],
     sink: &mut K,
 ) -> Result<bool, WriteStop>
-    requires { length rows.now ≤ 256 }
+    requires some { 1 ≤ workers }
+    requires limited { workers ≤ 16 }
+    requires few { length rows.now ≤ 256 }
     ensures ok { IfOk result (λ found. (es : List Entry) × (text : List ℕ) × AreEntriesOf rows.now es × AreAccepted es × (any_refused es ≡ found)
         × IsTextOf draw es text × IsPlainReport draw es text × Wrote (K.past sink.old) (K.past sink.new) text) }
     ensures part { IsErrOf result WriteStop.Fault → (es : List Entry) × (text : List ℕ) × AreFirstEntriesOf rows.now es
@@ -79,7 +101,7 @@ fn write_report<K: Sink>(
         return Err(WriteStop::Memory);
     };
     send(sink, &first)?;
-    let found = write_entries(alloc, draw, rows, sink)?;
+    let found = write_entries(rt, alloc, gate, workers, draw, rows, sink)?;
     let Ok(last) = done(alloc, rows.len() as u32) else {
         return Err(WriteStop::Memory);
     };
@@ -88,13 +110,18 @@ fn write_report<K: Sink>(
 }
 
 // Writes the pieces of rows, each as soon as it stands whole, and answers whether a row was refused.
-fn write_entries<K: Sink>(
+fn write_entries<R: Threads + Sync, G: Gate + Sync, K: Sink>(
+    rt: &R,
     alloc: Global,
+    gate: &G,
+    workers: u32,
     draw: bool,
     rows: &[Row],
     sink: &mut K,
 ) -> Result<bool, WriteStop>
-    requires { length rows.now ≤ 256 }
+    requires some { 1 ≤ workers }
+    requires limited { workers ≤ 16 }
+    requires few { length rows.now ≤ 256 }
     ensures ok { IfOk result (λ found. (es : List Entry) × (ts : List (List ℕ)) × AreEntriesOf rows.now es × (any_refused es ≡ found)
         × (length es ≡ length rows.now) × ArePieces draw es ts × Wrote (K.past sink.old) (K.past sink.new) (joined ts)) }
     ensures part { IsErrOf result WriteStop.Fault → (es : List Entry) × (ts : List (List ℕ)) × AreFirstEntriesOf rows.now es
@@ -105,11 +132,14 @@ fn write_entries<K: Sink>(
     ensures later { (K.past sink.old).faults ≤ (K.past sink.new).faults }
 {
     let mut found = false;
-    let mut number = 1;
-    for row in rows {
-        let refused = write_entry(alloc, draw, number, row, sink)?;
+    let mut ahead = VecDeque::new(alloc);
+    for index in 0..rows.len() {
+        let number = index as u32 + 1;
+        let Ok(entry) = next_entry(rt, alloc, gate, workers, rows, number, &mut ahead) else {
+            return Err(WriteStop::Memory);
+        };
+        let refused = write_entry(alloc, draw, &entry, sink)?;
         found = either(found, refused);
-        number += 1;
     }
     Ok(found)
 }
@@ -120,28 +150,24 @@ fn either(a: bool, b: bool) -> bool
     a || b
 }
 
-// Writes the piece of a row, and answers whether the row was refused.
+// Writes the piece of an entry, and answers whether its row was refused.
 fn write_entry<K: Sink>(
     alloc: Global,
     draw: bool,
-    number: u32,
-    row: &Row,
+    entry: &Entry,
     sink: &mut K,
 ) -> Result<bool, WriteStop>
-    requires first { 1 ≤ number }
-    requires last { number ≤ 256 }
-    ensures ok { IfOk result (λ refused. (e : Entry) × (t : List ℕ) × IsEntryOf number row.now e × (is_refused e ≡ refused)
-        × IsPieceOf draw e t × Wrote (K.past sink.old) (K.past sink.new) t) }
-    ensures part { IsErrOf result WriteStop.Fault → (e : Entry) × (t : List ℕ) × IsEntryOf number row.now e
-        × IsPieceOf draw e t × WrotePart (K.past sink.old) (K.past sink.new) t }
+    requires in_range { IsInRange Two entry.now }
+    requires sound { IsSoundEntry entry.now }
+    ensures ok { IfOk result (λ refused. (t : List ℕ) × (is_refused entry.now ≡ refused)
+        × IsPieceOf draw entry.now t × Wrote (K.past sink.old) (K.past sink.new) t) }
+    ensures part { IsErrOf result WriteStop.Fault → (t : List ℕ) × IsPieceOf draw entry.now t
+        × WrotePart (K.past sink.old) (K.past sink.new) t }
     ensures rose { IsErrOf result WriteStop.Fault → Rose (K.past sink.old).faults (K.past sink.new).faults }
     ensures memory { IsErrOf result WriteStop.Memory → sink.new ≡ sink.old }
     ensures later { (K.past sink.old).faults ≤ (K.past sink.new).faults }
 {
-    let Ok(entry) = plan_row(alloc, number, row) else {
-        return Err(WriteStop::Memory);
-    };
-    let Ok(text) = piece(alloc, draw, &entry) else {
+    let Ok(text) = piece(alloc, draw, entry) else {
         return Err(WriteStop::Memory);
     };
     send(sink, &text)?;

@@ -10,6 +10,8 @@ use Rattle.std.proofs.lemmas.List.Elements.{recursion_from_All}
 use Rattle.std.proofs.lemmas.Fmt.{length-decimal-le}
 use Rattle.texts.specs.Lines.{ended, spaced, text_of}
 use Rattle.texts.proofs.Parsers.{both_true}
+use Rattle.std.proofs.Math.Nat.{mul_comm}
+use Rattle.line_tables.specs.Lines.{Lines, half}
 use Rattle.weightings.specs.declared.kinds.Weighting.{Weighting}
 use Rattle.weightings.specs.declared.kinds.Weighting.TheVariants as weightings
 use Rattle.weightings.specs.declared.certs.Mark.{Mark}
@@ -17,8 +19,8 @@ use Rattle.weightings.specs.declared.certs.StripCut.{StripCut}
 use Rattle.weightings.specs.declared.certs.StripCut.TheVariants as cuts
 use Rattle.weightings.specs.declared.certs.Cert.{Cert}
 use Rattle.weightings.specs.declared.certs.Cert.TheVariants as certs
-use Rattle.cert_text.specs.Ranges.{are_sides, are_weights, is_weighting, is_tree, is_cut, InRange}
-use Rattle.cert_text.specs.Text.{weighting_words, weighting_lines, rows_of, row_words, row_lines, mark_byte, tree_line, cut_words, cut_lines, cert_lines, cert_text}
+use Rattle.cert_text.specs.Ranges.{are_sides, are_counts, are_rising, are_lines, are_weights, is_weighting, is_tree, is_cut, InRange}
+use Rattle.cert_text.specs.Text.{weighting_words, weighting_lines, rows_of, lines_words, row_words, row_lines, mark_byte, tree_line, cut_words, cut_lines, cert_lines, cert_text}
 use Rattle.cert_text.specs.declared.forms.Form.TheVariants.{Two}
 use Rattle.order_reader.specs.declared.fields.Field.{Field}
 use Rattle.order_reader.specs.declared.fields.Field.TheVariants.{PalletX, PalletY, CaseX, CaseY, CaseZ, Weight, MaxHeight, MaxWeight, Contact, Support, Cut, Gap}
@@ -157,6 +159,46 @@ table_short x y cells s f =
     let rows = rows_short x y cells g.1 in
     omega arith
 
+axis_short : (lines : List ℕ) → list_all (λ line. leb line 3999) lines ≡ true → behind_len (map decimal lines) ≤ length lines * 5
+axis_short [] f = omega arith
+axis_short (n ∷ ns) f =
+    let p = both_true (leb n 3999) (list_all (λ m. leb m 3999) ns) f in
+    let low : n ≤ 3999 = leb-true n 3999 p.0 in
+    let first = side_len n (omega arith) in
+    let others = axis_short ns p.1 in
+    omega arith
+
+lines_short : (t : Lines) → are_counts (length t.columns) (length t.rows) ≡ true → (are_lines t.columns && (are_lines t.rows && are_weights (half (length t.rows) * half (length t.columns)) t.quarter)) ≡ true
+    → length (ended (spaced (weighting_words (weightings.Lines t)))) + length (text_of (rows_of (weightings.Lines t))) ≤ 330000
+lines_short t s f =
+    let k = length t.columns in
+    let m = length t.rows in
+    let h1 = both_true (leb 1 k) (leb k 4000 && (leb 1 m && (leb m 4000 && leb (half k * half m) 40000))) s in
+    let h2 = both_true (leb k 4000) (leb 1 m && (leb m 4000 && leb (half k * half m) 40000)) h1.1 in
+    let h3 = both_true (leb 1 m) (leb m 4000 && leb (half k * half m) 40000) h2.1 in
+    let h4 = both_true (leb m 4000) (leb (half k * half m) 40000) h3.1 in
+    let f1 = both_true (are_lines t.columns) (are_lines t.rows && are_weights (half m * half k) t.quarter) f in
+    let f2 = both_true (are_lines t.rows) (are_weights (half m * half k) t.quarter) f1.1 in
+    let c = both_true (list_all (λ line. leb line 3999) t.columns) (are_rising t.columns) f1.0 in
+    let r = both_true (list_all (λ line. leb line 3999) t.rows) (are_rising t.rows) f2.0 in
+    let g = both_true (eqb (length t.quarter) (half m * half k)) (list_all (λ w. leb w 100000) t.quarter) f2.1 in
+    let count : length t.quarter ≡ half m * half k = eqb-true (length t.quarter) (half m * half k) g.0 in
+    let few : half k * half m ≤ 40000 = leb-true (half k * half m) 40000 h4.1 in
+    let turn : half m * half k ≡ half k * half m = mul_comm (half m) (half k) in
+    let short_k : k ≤ 4000 = leb-true k 4000 h2.0 in
+    let short_m : m ≤ 4000 = leb-true m 4000 h4.0 in
+    let a = side_len k short_k in
+    let b = side_len m short_m in
+    let first = length-line (codes "weighting") (codes "lines" ∷ decimal k ∷ decimal m ∷ []) in
+    let columns = axis_short t.columns c.0 in
+    let rows = axis_short t.rows r.0 in
+    let columns_line = length-line (codes "columns") (map decimal t.columns) in
+    let rows_line = length-line (codes "rows") (map decimal t.rows) in
+    let weights = rows_short (half k) (half m) t.quarter g.1 in
+    let t2 = length-text (spaced (lines_words (codes "rows") t.rows)) (row_lines (half k) (half m) t.quarter) in
+    let t1 = length-text (spaced (lines_words (codes "columns") t.columns)) (spaced (lines_words (codes "rows") t.rows) ∷ row_lines (half k) (half m) t.quarter) in
+    omega arith
+
 weighted_text_len : (w : Weighting) (t : List Mark) → length (cert_text (certs.Weighted w t)) ≡ 14 + ((length (ended (spaced (weighting_words w))) + length (text_of (rows_of w))) + (length t + 6))
 unfolding cert_lines
 weighted_text_len w t =
@@ -241,6 +283,13 @@ cert_short (certs.Weighted (weightings.Table w) t) f h =
     let g = both_true (is_weighting Two (weightings.Table w)) (is_tree t) f in
     let s = both_true (are_sides w.x_side w.y_side) (are_weights (w.y_side * w.x_side) w.cells) g.0 in
     let table = table_short w.x_side w.y_side w.cells s.0 s.1 in
+    let one = h in
+    omega arith
+cert_short (certs.Weighted (weightings.Lines w) t) f h =
+    let e = weighted_text_len (weightings.Lines w) t in
+    let g = both_true (is_weighting Two (weightings.Lines w)) (is_tree t) f in
+    let s = both_true (are_counts (length w.columns) (length w.rows)) (are_lines w.columns && (are_lines w.rows && are_weights (half (length w.rows) * half (length w.columns)) w.quarter)) g.0 in
+    let table = lines_short w s.0 s.1 in
     let one = h in
     omega arith
 cert_short (certs.Strip cs) f h = strip_short cs f

@@ -10,7 +10,8 @@ fn refused_words(rt: HostRuntime) -> Result<(), Fail> {
     let lines = [
         "",
         "plan plan",
-        "plan --workers 2",
+        "plan --workers 17",
+        "floor --workers 2",
         "check --workers 17",
         "check --draw",
         "trial",

@@ -50,14 +50,19 @@ impl Gate for Meeting {
     }
 }
 
-// Whether the two entries are in judgement at the same time.
-fn meet<R: Threads + Sync>(rt: &R, alloc: Global, workers: &str) -> Result<bool, Fail> {
+// Whether the first and the second of what the source has are at work at the same time.
+fn meet<R: Threads + Sync>(
+    rt: &R,
+    alloc: Global,
+    mode: &str,
+    workers: &str,
+    input: Vec<u8>,
+) -> Result<bool, Fail> {
     let mut words = Vec::new(alloc);
-    for word in ["check", "--workers", workers] {
+    for word in [mode, "--workers", workers] {
         words.push(String::from_str(alloc, word)?)?;
     }
-    let text = TWO_ENTRIES.as_bytes().to_vec(alloc)?;
-    let mut source = MemSource::new(text, 4096, Vec::new(alloc));
+    let mut source = MemSource::new(input, 4096, Vec::new(alloc));
     let mut sink = MemSink::new(alloc, 4096, 4096, Vec::new(alloc))?;
     let gate = Meeting::new();
     let answer = run_gated(rt, alloc, &gate, &words, &mut source, &mut sink);
@@ -70,8 +75,22 @@ fn meet<R: Threads + Sync>(rt: &R, alloc: Global, workers: &str) -> Result<bool,
 // Two workers judge two entries at once; one worker does not.
 #[test]
 fn side_by_side(rt: HostRuntime) -> Result<(), Fail> {
-    assert!(rt; meet(&rt, rt.alloc(), "2")?);
-    assert!(rt; !meet(&rt, rt.alloc(), "1")?);
+    let alloc = rt.alloc();
+    let entries = || TWO_ENTRIES.as_bytes().to_vec(alloc);
+    assert!(rt; meet(&rt, alloc, "check", "2", entries()?)?);
+    assert!(rt; !meet(&rt, alloc, "check", "1", entries()?)?);
+    Ok(())
+}
+
+// Two orders with one layout each.
+const TWO_ORDERS: &str = "\nA,5,5,3,3,1,1,1,1,0,0,100\nB,5,5,4,4,1,1,1,1,0,0,100";
+
+// Two workers plan two orders at once; one worker does not.
+#[test]
+fn planned_side_by_side(rt: HostRuntime) -> Result<(), Fail> {
+    let alloc = rt.alloc();
+    assert!(rt; meet(&rt, alloc, "plan", "2", file(alloc, TWO_ORDERS)?)?);
+    assert!(rt; !meet(&rt, alloc, "plan", "1", file(alloc, TWO_ORDERS)?)?);
     Ok(())
 }
 

@@ -1,6 +1,6 @@
 use Rattle.std.proofs.lemmas.Bool.{false≢true}
 use Rattle.texts.specs.Lines.{whole_lines}
-use Rattle.cert_text.proofs.CertReaders.{is_table_read}
+use Rattle.cert_text.proofs.WeightingReaders.{is_table_read}
 use Rattle.cert_text.proofs.lines.table_at.Goals as goal
 
 pub unreachable-requires : goal.unreachable-requires

@@ -70,7 +70,7 @@ returns-clause-ok g c =
       es,
       head_of draw ++ (joined ts ++ done_text (length rows)),
       are,
-      are_accepted rows es c.requires are,
+      are_accepted rows es c.requires.few are,
       found,
       record { pieces = ts; are_pieces = pieces; text_is = whole },
       plain draw es ts _ pieces whole,

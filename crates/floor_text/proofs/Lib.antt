@@ -1,0 +1,5 @@
+pub mod FloorReaders
+pub mod RowLoop
+pub mod TakenRows
+pub mod FloorBytes
+pub mod Lengths
