@@ -1,1 +1,2 @@
 pub mod StartSteps
+pub mod SearchSteps

@@ -4,7 +4,7 @@ use Rattle.plan_geometry.specs.declared.spots.Axis.{Axis}
 use Rattle.plan_geometry.specs.declared.spots.Way.TheVariants.{Lying, Standing}
 use Rattle.plan_geometry.specs.declared.instances.Inst.{Inst}
 use Rattle.raster_points.specs.Places.{Lists}
-use Rattle.raster_points.specs.Points.{ArePointsOf, ArePoints}
+use Rattle.raster_points.specs.Points.{ArePointsOf}
 use Rattle.line_search.specs.Lines.{IsStart, IsLineOf}
 use Rattle.line_search.specs.declared.lines.Starts.{Starts}
 

@@ -1,10 +1,10 @@
-ghost use Rattle.std.specs.Prelude.{◌≡◌, ◌*◌, ◌≤◌, ◌↔◌, IfOk, IfSome, IfNone, IsSome, IsTrue, Some, None};
+ghost use Rattle.std.specs.Prelude.{◌≡◌, ◌+◌, ◌*◌, min, max, ◌<◌, ◌≤◌, ◌↔◌, IfOk, IfSome, IfNone, IsSome, IsTrue, Some, None};
 ghost use Rattle.plan_geometry.specs.declared.spots.Axis.TheVariants.{X, Y};
 ghost use Rattle.raster_points.specs.Places.{Lists};
 ghost use Rattle.line_tables.specs.Lines.{half, BelongsTo};
 ghost use Rattle.line_search.specs.Lines.{IsLine};
 ghost use Rattle.line_search.specs.Flows.{AreAxes};
-ghost use Rattle.line_search.specs.Search.{HasFewLines, IsBounding, Closes};
+ghost use Rattle.line_search.specs.Search.{HasFewLines, IsBounding, IsImproved, Closes};
 ghost use Rattle.line_search.specs.declared.search.End.{End};
 
 use crate::blocks::total_of;
@@ -91,7 +91,9 @@ fn entries_of(flow: &Flow) -> u64 {
 }
 
 // The most turns of a search with so many weights and levels.
-fn limit_of(entries: u64) -> u32 {
+fn limit_of(entries: u64) -> u32
+    ensures { result ≤ 2000 }
+{
     (MOST_PASSES / entries.max(1)).min(u64::from(MOST_TURNS)) as u32
 }
 
@@ -136,7 +138,8 @@ fn bounding_of(
     least: u64,
 ) -> Result<Option<Bounding>, Memory>
     requires { BelongsTo table.now inst }
-    ensures { IfOk result (λ made. IfSome made (IsBounding inst)) }
+    ensures bounding { IfOk result (λ made. IfSome made (IsBounding inst)) }
+    ensures below { IfOk result (λ made. IfSome made (λ b. b.bound < least)) }
 {
     if !case_fits(inst) {
         return Ok(None);
@@ -174,8 +177,11 @@ impl LineSearch {
     /// for each crossing of a quarter and for each place of a case in a quarter.
     pub fn start(alloc: Global, inst: Inst, target: u32) -> Result<Option<LineSearch>, Memory>
         ensures accepted { IfOk result (λ made. IsSome made ↔ HasFewLines inst) }
-        ensures begun { IfOk result (λ made. IfSome made
-            (λ s. s ≡ record { inst = inst; best = None; lightest = None; turns = 0 })) }
+        ensures inst { IfOk result (λ made. IfSome made (λ s. s.inst ≡ inst)) }
+        ensures best { IfOk result (λ made. IfSome made (λ s. s.best ≡ None)) }
+        ensures lightest { IfOk result (λ made. IfSome made (λ s. s.lightest ≡ None)) }
+        ensures turns { IfOk result (λ made. IfSome made (λ s. s.turns ≡ 0)) }
+        ensures limit { IfOk result (λ made. IfSome made (λ s. s.limit ≤ 2000)) }
     {
         let axes = axes_of(alloc, inst)?;
         if !are_few(inst, &axes) {
@@ -205,6 +211,13 @@ impl LineSearch {
         ensures { result ≡ self.now.turns }
     {
         self.turns
+    }
+
+    /// How many turns it makes at the most: 2,000, or fewer on many lines.
+    pub fn limit(&self) -> u32
+        ensures { result ≡ self.now.limit }
+    {
+        self.limit
     }
 
     /// The table with the least bound that was found, below the known bound of the run that found it.
@@ -242,17 +255,39 @@ impl LineSearch {
     }
 
     // The least bound that is known.
-    fn least_bound(&self, known: u32) -> u64 {
+    fn least_bound(&self, known: u32) -> u64
+        ensures known { result ≤ known }
+        ensures best { IfSome self.now.best (λ b. result ≤ b.bound) }
+    {
         match &self.best {
             Some(best) => best.bound.min(u64::from(known)),
             None => u64::from(known),
         }
     }
 
+    // Keeps a table as the best.
+    fn keep_best(&mut self, better: Bounding)
+        requires { IsBounding self.old.inst better }
+        ensures { self.new ≡ record self.old { best = Some better } }
+    {
+        self.best = Some(better);
+    }
+
+    // Keeps a table as the lightest.
+    fn keep_lightest(&mut self, table: LineTable)
+        requires { BelongsTo table self.old.inst }
+        ensures { self.new ≡ record self.old { lightest = Some table } }
+    {
+        self.lightest = Some(table);
+    }
+
     // Tests the table of repaired weights, which is kept where no lighter one was met, and as the best where its bound
     // is below the known one and that of the best so far.
     fn test(&mut self, alloc: Global, known: u32, weights: &[u64]) -> Result<(), Memory>
         ensures inst { self.new.inst ≡ self.old.inst }
+        ensures turns { self.new.turns ≡ self.old.turns }
+        ensures limit { self.new.limit ≡ self.old.limit }
+        ensures improved { IsImproved known self.old.best self.new.best }
     {
         let made = table_of(
             alloc,
@@ -265,18 +300,17 @@ impl LineSearch {
             return Ok(());
         };
         let least = self.least_bound(known);
-        let better = bounding_of(alloc, self.inst, &table, least)?;
-        if better.is_some() {
-            self.best = better;
+        if let Some(better) = bounding_of(alloc, self.inst, &table, least)? {
+            self.keep_best(better);
         }
-        self.lightest = Some(table);
+        self.keep_lightest(table);
         Ok(())
     }
 
     // Begins again where the last step led if what the weights bound is less than a third as far from what the levels
     // pack as it was, or after many turns; else goes on.
     fn go_on(&mut self, gap: u64)
-        ensures inst { self.new.inst ≡ self.old.inst }
+        ensures { self.new ≡ self.old }
     {
         let (k, m) = (self.columns.len(), self.rows.len());
         if gap < self.gap / 3 || (self.since > 200 && self.since.saturating_mul(3) > self.turns) {
@@ -292,6 +326,9 @@ impl LineSearch {
     // lighter than all before.
     fn look(&mut self, alloc: Global, known: u32) -> Result<(), Memory>
         ensures inst { self.new.inst ≡ self.old.inst }
+        ensures turns { self.new.turns ≡ self.old.turns }
+        ensures limit { self.new.limit ≡ self.old.limit }
+        ensures improved { IsImproved known self.old.best self.new.best }
     {
         let (k, m) = (self.columns.len(), self.rows.len());
         let weights = repaired(alloc, &mut self.flow, k, m)?;
@@ -308,11 +345,15 @@ impl LineSearch {
 
     // One turn, with a look at every twentieth.
     fn turn(&mut self, alloc: Global, known: u32) -> Result<(), Memory>
+        requires { self.old.turns < self.old.limit }
         ensures inst { self.new.inst ≡ self.old.inst }
+        ensures turns { self.new.turns ≡ self.old.turns + 1 }
+        ensures limit { self.new.limit ≡ self.old.limit }
+        ensures improved { IsImproved known self.old.best self.new.best }
     {
         let (k, m) = (self.columns.len(), self.rows.len());
         step_all(&mut self.flow, k, m);
-        self.turns = self.turns.saturating_add(1);
+        self.turns += 1;
         self.since = self.since.saturating_add(1);
         if self.turns % TURNS == 0 {
             self.look(alloc, known)
@@ -341,11 +382,17 @@ impl LineSearch {
         most_turns: u32,
     ) -> Result<End, Memory>
         ensures inst { self.new.inst ≡ self.old.inst }
+        ensures limit { self.new.limit ≡ self.old.limit }
+        ensures more { self.old.turns ≤ self.new.turns }
+        ensures limited { self.new.turns ≤ max self.old.turns (min most_turns self.old.limit) }
+        ensures improved { IsImproved known self.old.best self.new.best }
         ensures closed { IfOk result (λ end. (end ≡ End.Closed) ↔ Closes self.new target) }
+        ensures spent { IfOk result (λ end. end ≡ End.Spent → min most_turns self.old.limit ≤ self.new.turns) }
     {
         for _turn in self.turns..most_turns.min(self.limit) {
-            if self.end(target, known) != End::Spent {
-                break;
+            let end = self.end(target, known);
+            if end != End::Spent {
+                return Ok(end);
             }
             self.turn(alloc, known)?;
         }

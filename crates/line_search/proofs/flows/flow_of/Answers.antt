@@ -1,4 +1,4 @@
-use Rattle.std.proofs.Common.{rules, ◌∙◌}
+use Rattle.std.proofs.Common.{rules}
 use Rattle.line_search.proofs.flows.flow_of.Goals as goal
 
 pub set_all_rates-requires : goal.set_all_rates-requires

@@ -1,4 +1,4 @@
-use Rattle.std.proofs.Common.{arith, ◌-◌, ap}
+use Rattle.std.proofs.Common.{◌-◌, ap}
 use Rattle.std.proofs.lemmas.Bool.{eqb-true, eq-eqb}
 use Rattle.raster_points.specs.Places.{IsDown}
 use Rattle.line_search.proofs.StartSteps.{normal_from_end}

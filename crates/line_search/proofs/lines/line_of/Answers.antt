@@ -1,8 +1,3 @@
-use Rattle.std.proofs.Common.{ℕ, ◌≡◌, subst, None, Some, Option}
-use Rattle.std.specs.Option.{IfNone}
-use Rattle.plan_geometry.specs.declared.spots.Axis.{Axis}
-use Rattle.plan_geometry.specs.declared.instances.Inst.{Inst}
-use Rattle.line_search.specs.Lines.{IsLastBefore, IsLineOf}
 use Rattle.line_search.proofs.StartSteps.{no-line-of}
 use Rattle.line_search.proofs.lines.line_of.Goals as goal
 

@@ -1,4 +1,4 @@
-use Rattle.std.proofs.Common.{get_or, arith, true, ◌∙◌}
+use Rattle.std.proofs.Common.{arith, true, ◌∙◌}
 use Rattle.std.proofs.lemmas.List.{length-set}
 use Rattle.line_search.proofs.StartSteps.{mark-more, mark-none}
 use Rattle.line_search.proofs.lines.mark_lines.Goals as goal

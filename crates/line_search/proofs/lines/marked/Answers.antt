@@ -1,4 +1,4 @@
-use Rattle.std.proofs.Common.{◌≡◌, sym, ◌∙◌, arith}
+use Rattle.std.proofs.Common.{sym, ◌∙◌, arith}
 use Rattle.std.proofs.lemmas.Bool.{false≢true}
 use Rattle.line_search.specs.Starts.{IsMarked}
 use Rattle.raster_points.proofs.PlaceLemmas.{below_more, below_skip, lists_below}
