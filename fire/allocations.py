@@ -5,8 +5,9 @@ The program asks the C library for memory (malloc, realloc); fire/refuse.c stand
 call, or at each call from a chosen one on. For each of the runs below and each such call (of one long run, for some two
 hundred of them) the run has to give the full answer, the same bytes and the same status as where nothing is refused, or to
 end with status 9, and then what was written has to be one of: nothing; of `plan`, `upgrade` and `choose` the first line and
-whole entries behind it; of `check` and `check-choice` whole verdict lines; of `trial` nothing. Needs `cc` and a program that is linked to the C library at run time. The last line is of totals; the status
-is not 0 where anything else was seen.
+whole entries behind it; of `design` the first line with that of its row and whole entries behind both; of `check` and
+`check-choice` whole verdict lines; of `trial` nothing. Needs `cc` and a program that is linked to the C library at run time.
+The last line is of totals; the status is not 0 where anything else was seen.
 """
 
 import argparse
@@ -18,20 +19,21 @@ import tempfile
 from concurrent.futures import ThreadPoolExecutor
 
 import program
-from program import TWO_LAYERS, run
+from program import TWO_LAYERS, TWO_SIZES, run
 
 
 def pieces_of(text):
-    """The first line of a report or a choice, and its entries, each with its drawing; what stands behind them is left out."""
-    starts = [found.start() for found in re.finditer(rb"(?m)^((entry|done) \d+|chosen .*)$", text)]
-    if text.startswith(b"pallet-choice"):
+    """The first line of a report or a choice, or the first two of a design, and the entries, each with its drawing; what stands
+    behind them is left out."""
+    starts = [found.start() for found in re.finditer(rb"(?m)^((entry|done) \d+|(chosen|best) .*)$", text)]
+    if text.startswith((b"pallet-choice", b"pallet-design")) and len(starts) > 1:
         starts.pop()
     return [text[: starts[0]]] + [text[begin:end] for begin, end in zip(starts, starts[1:])]
 
 
 def broken_off(words, full):
     """The texts that may stand after refused memory, where the whole one is `full`."""
-    if words[0] in ("plan", "upgrade", "choose") and full:
+    if words[0] in ("plan", "upgrade", "choose", "design") and full:
         pieces = pieces_of(full)
         return {b""} | {b"".join(pieces[:count]) for count in range(1, len(pieces) + 1)}
     if words[0] in ("check", "check-choice") and full:
@@ -113,11 +115,12 @@ def walks():
         Walk(["upgrade"], report, "upgrade, " + two),
         Walk(["upgrade"], old, "upgrade, %s in the old form" % two),
         Walk(["trial", "--number", "1"], b"", "trial --number 1"),
-        Walk(["plan", "--workers", "2"], TWO_LAYERS, "words that are not accepted", 2),
+        Walk(["upgrade", "--workers", "2"], report, "words that are not accepted", 2),
         Walk(["plan"], b"no header\n", "plan, no header", 4),
         Walk(["check"], report[:-3], "check, no report", 6),
         Walk(["plan"], mixed, "plan, mixed-orders.csv", 1),
         Walk(["plan", "--draw"], mixed, "plan --draw, mixed-orders.csv", 1),
+        Walk(["plan", "--workers", "3"], mixed, "plan --workers 3, mixed-orders.csv", 1, threads=True),
         Walk(["check"], mixed_report, "check, mixed-orders.csv"),
         Walk(["check", "--workers", "3"], mixed_report, "check --workers 3, mixed-orders.csv", threads=True),
         Walk(["upgrade"], mixed_report, "upgrade, mixed-orders.csv"),
@@ -129,6 +132,12 @@ def walks():
         Walk(["choose"], dozen, "choose, dozen-orders.csv", 1),
         Walk(["check-choice"], dozen_choice, "check-choice, dozen-orders.csv"),
         Walk(["check-choice"], choice[:-3], "check-choice, no choice", 6),
+        Walk(["design"], TWO_SIZES, "design, two sizes"),
+        Walk(["design"], TWO_SIZES.replace(b"5,5,3,3", b"3,3,3,4"), "design, four sizes of which two fit", 1),
+        Walk(["design", "--workers", "3"], TWO_SIZES.replace(b"5,5,3,3", b"5,5,3,5"), "design --workers 3, six sizes", threads=True),
+        Walk(["design"], TWO_SIZES.replace(b"D,", b"D,0"), "design, a refused row", 1),
+        Walk(["design"], TWO_SIZES[:-17], "design, no row"),
+        Walk(["design"], TWO_SIZES + b"D\n", "design, too many rows", 5),
         Walk(["plan"], rows_of("9,8,5,2", "12,11,7,2", "14,13,4,3"), "plan, strips and tables"),
         Walk(["plan"], rows_of("43,26,7,3"), "plan, L-regions, some of the calls", most=200),
     ]

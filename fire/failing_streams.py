@@ -12,7 +12,7 @@ import sys
 import tempfile
 
 import program
-from program import SAID, TWO_LAYERS, run
+from program import SAID, TWO_LAYERS, TWO_SIZES, run
 
 FINDS = []
 RUNS = [0]
@@ -42,8 +42,10 @@ def closed(words, redirection, path):
 def modes():
     """Each mode with an input, by a path that bash can open."""
     report, choice = run(["plan"], TWO_LAYERS).written, run(["choose"], TWO_LAYERS).written
-    return [(["plan"], TWO_LAYERS), (["plan", "--draw"], TWO_LAYERS), (["check"], report), (["check", "--workers", "3"], report),
-            (["upgrade"], report), (["choose"], TWO_LAYERS), (["check-choice"], choice), (["trial", "--number", "5"], b"")]
+    three = ["--workers", "3"]
+    return [(["plan"], TWO_LAYERS), (["plan", "--draw"], TWO_LAYERS), (["plan", *three], TWO_LAYERS), (["check"], report),
+            (["check", *three], report), (["upgrade"], report), (["choose"], TWO_LAYERS), (["check-choice"], choice),
+            (["design"], TWO_SIZES), (["design", *three], TWO_SIZES), (["trial", "--number", "5"], b"")]
 
 
 def try_mode(words, data, folder):

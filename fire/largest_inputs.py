@@ -3,12 +3,12 @@
 
 Orders files of 256 rows, each with a layer of up to 1,000 cases: of equal cells, with gaps and all stack rules, with stacks
 of 10,000 layers, thin ones, ones whose search is as long as it can be, and ones with trees of nearly 500,000 marks; drawn and
-not. Reports: what these gave, and a made one in which each of 256 entries has eight layers of 1,000 cases, a table of
-40,000 weights, a tree of 500,000 marks and a stack of 10,000 numbers, once whole and once cut to below 160,000,000
-bytes; and inputs that are one byte too long. Each run has to end with the status and, where it is known, the text that
-is due: the entries of `plan` are read by the second reader, a few are judged by the second judge, and `check` has to say
-yes to all. Prints a table in the form of docs/PERFORMANCE.md, and as the last line totals; the status is not 0 where
-anything else was seen. Needs 1.5 GB in the temporary folder, and some minutes.
+not. A designs file of 256 sizes with as many cases. Reports: what these gave, and a made one in which each of 256 entries has
+eight layers of 1,000 cases, a table of 40,000 weights, a tree of 500,000 marks and a stack of 10,000 numbers, once whole and
+once cut to below 160,000,000 bytes; and inputs that are one byte too long. Each run has to end with the status and, where it
+is known, the text that is due: the entries of `plan` are read by the second reader, a few are judged by the second judge, and
+`check` has to say yes to all. Prints a table in the form of docs/PERFORMANCE.md, and as the last line totals; the status is
+not 0 where anything else was seen. Needs 1.5 GB in the temporary folder, and some minutes.
 """
 
 import argparse
@@ -19,9 +19,12 @@ import subprocess
 import sys
 import tempfile
 
+import changed_designs
+import designs
 import mutated_inputs
 import plan_look
 import program
+from orders import MOST_BYTES as MOST_ORDERS_BYTES
 from orders import fault_of_numbers, rows_of
 from program import GAP_HEADER, SAID, Outcome
 from reports import HEADS, MOST_BYTES, Plan, Refused, entry_text, read_report
@@ -175,6 +178,27 @@ def try_orders(measured, what, rows, others=True):
         measured.find("plan --draw of %s: not the same entries" % what)
 
 
+# ---- designs
+
+def try_design(measured):
+    """A design of 256 sizes, of each of which 795 to 1,000 cases are allowed by area."""
+    what, data = "256 sizes of nearly 1,000 cases", changed_designs.HEADER + b"\nD,4000,4000,160,175,100,115,1\n"
+    measured.write("designs", data)
+    measured.run(what, ["design"], "designs", "design", 0)
+    measured.run(what, ["design", "--workers", "4"], "designs", "design of four", 0)
+    measured.same(what + ", by four workers", "design of four", "design")
+    asked, text = designs.asked_by(data), measured.read("design")
+    entries = designs.read_design(text).entries
+    if text != designs.design_text(designs.design_asked(asked, entries)):
+        measured.find("%s: not the design of its entries" % what)
+    if [(entry.id, entry.order) for entry in entries] != designs.rows_asked(asked):
+        measured.find("%s: not the entries of its sizes" % what)
+    for entry in entries[::200]:
+        verdict = verdict_of(entry)
+        if verdict != "yes":
+            measured.find("%s: the second judge says %s of entry %d" % (what, verdict, entry.number))
+
+
 # ---- the largest report
 
 def largest_plan():
@@ -270,12 +294,24 @@ def limit_orders():
     yield program.HEADER + row.replace(b"A", b"x" * 40) + row.replace(b"A", b"x" * 41)
 
 
+def limit_designs():
+    """Designs files at a limit, and one beyond it."""
+    head, row = changed_designs.HEADER + b"\n", b"D,5,5,3,3,2,3,1\n"
+    room = MOST_ORDERS_BYTES - len(head)
+    yield from (head + b"D,5,5,1,%d,1,1,1\n" % greatest for greatest in (255, 256, 257, 3999, 4000, 4001))
+    yield from (head + b"D,5,5,1,4000,1,4000,%d\n" % area for area in (15999999, 16000000, 16000001))
+    yield from (head + b"x" * count + row[1:] for count in (40, 41))
+    yield from (head + b"\n" * (room - len(row)) + row + b"\n" * more for more in (0, 1))
+    yield from (head + byte * room for byte in (b"x", b",", b"\"", b"\n"))
+
+
 def try_limits(measured):
     """Limits, looked at as the changed inputs are."""
     tally, rng = collections.Counter(), random.Random(1)
     tries = [lambda data=data: mutated_inputs.try_check(rng, data, tally) for data in limit_reports()]
     tries += [lambda data=data: mutated_inputs.try_upgrade(data, tally) for data in limit_reports()]
     tries += [lambda data=data: mutated_inputs.try_plan(rng, data, tally) for data in limit_orders()]
+    tries += [lambda data=data: changed_designs.try_design(rng, data, tally) for data in limit_designs()]
     for number, one in enumerate(tries):
         measured.runs += 1
         try:
@@ -342,6 +378,7 @@ def main():
         print("| What | Words | Read | Written | By the clock (processor time) | Memory |\n|---|---|---|---|---|---|")
         for what, rows, others in ROWS:
             try_orders(measured, what, rows(), others)
+        try_design(measured)
         try_reports(measured)
         try_limits(measured)
         try_too_long(measured)

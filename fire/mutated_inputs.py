@@ -1,9 +1,9 @@
 #!/usr/bin/env python3
 """Gives the built program a hundred thousand changed inputs, and compares what it does with a second look.
 
-Orders files go to `plan` (some drawn), reports to `check` (with 1 to 16 workers) and to `upgrade`. They are made from the
-shipped examples and from small made orders by a seeded generator: bits, bytes, lines, words and numbers of a text are
-changed, lines exchanged, texts cut off; and entries are changed within the grammar: cases, layers, moves, counts, bounds,
+Orders files go to `plan` (some drawn, some with 1 to 16 workers), reports to `check` (with 1 to 16 workers) and to `upgrade`.
+They are made from the shipped examples and from small made orders by a seeded generator: bits, bytes, lines, words and numbers
+of a text are changed, lines exchanged, texts cut off; and entries are changed within the grammar: cases, layers, moves, counts, bounds,
 certificates, planned instances, orders and stacks, after which what follows from them is mostly brought into line again, so
 that the later clauses are reached. Input number i of a seed is the same in each run.
 
@@ -188,12 +188,15 @@ def try_upgrade(data, tally):
 
 def try_plan(rng, data, tally):
     draw = rng.random() < 0.2
-    outcome = run(["plan", "--draw"] if draw else ["plan"], data)
+    words = ["plan", "--draw"] if draw else ["plan"]
+    if rng.random() < 0.3:
+        words += ["--workers", str(rng.randrange(1, 17))]
+    outcome = run(words, data)
     look_at_run(outcome)
     tally["plan, status %d" % outcome.status] += 1
     wrong, entries = plan_look.looks_wrong(data, outcome, draw)
     if wrong:
-        raise Find("plan%s: %s" % (" --draw" if draw else "", wrong))
+        raise Find("%s: %s" % (" ".join(words), wrong))
     for entry in entries:
         if not isinstance(entry, Refused):
             look_at_bound(entry, tally)

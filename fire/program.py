@@ -10,11 +10,12 @@ EXAMPLES = os.path.join(TOP, "examples")
 GAP_HEADER = b"id,pallet_x,pallet_y,case_x,case_y,case_z,weight,max_height,max_weight,contact,support,cut,gap\n"
 HEADER = GAP_HEADER.replace(b",gap", b"")
 TWO_LAYERS = HEADER + b"A,5,5,3,2,1,10,2,1000,100,1,20\n"
+TWO_SIZES = b"id,pallet_x,pallet_y,long_from,long_to,short_from,short_to,least_area\nD,5,5,3,3,2,3,1\n"
 # What the program says on standard error with each status; None where more than one line is right.
 SAID = {
     0: b"",
     1: b"pallet: some rows or entries were not accepted\n",
-    2: b"usage: pallet plan [--draw] [--workers N] | check [--workers N] | upgrade | choose | check-choice | floor | check-floor | trial --number N\n",
+    2: b"usage: pallet plan [--draw] [--workers N] | check [--workers N] | upgrade | choose | check-choice | design [--workers N] | floor | check-floor | trial --number N\n",
     3: b"pallet: input too long\n",
     4: b"pallet: no header\n",
     5: b"pallet: too many rows\n",

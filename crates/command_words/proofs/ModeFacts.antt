@@ -7,7 +7,7 @@ use Rattle.clap.specs.declared.error.kind.ErrorKind.{ErrorKind}
 use Rattle.command_words.specs.Given.{number_in}
 use Rattle.command_words.specs.Accepted.{mode_with, where_faultless, IsInRange}
 use Rattle.command_words.specs.declared.modes.Mode.{Mode}
-use Rattle.command_words.specs.declared.modes.Mode.TheVariants.{Plan, Check, Upgrade, Choose, CheckChoice, Floor, CheckFloor, Trial}
+use Rattle.command_words.specs.declared.modes.Mode.TheVariants.{Plan, Check, Upgrade, Choose, CheckChoice, Design, Floor, CheckFloor, Trial}
 use Rattle.command_words.specs.declared.modes.Options.{Options}
 
 -- a choice of two modes, or of a mode and none
@@ -39,10 +39,11 @@ mode_in_range workers number draw word w n =
     (either (bytes_eq word (codes "upgrade")) _ _ (where_true absent (Some Upgrade) tt)
     (either (bytes_eq word (codes "choose")) _ _ (where_true absent (Some Choose) tt)
     (either (bytes_eq word (codes "check-choice")) _ _ (where_true absent (Some CheckChoice) tt)
+    (either (bytes_eq word (codes "design")) _ _ (where_true (not draw && no_number) (Some (Design (unwrap_or (option_map number_in workers) 1))) (workers_in_range workers w))
     (either (bytes_eq word (codes "floor")) _ _ (where_true absent (Some Floor) tt)
     (either (bytes_eq word (codes "check-floor")) _ _ (where_true absent (Some CheckFloor) tt)
     (where_true (bytes_eq word (codes "trial")) _
-    (where_true (not draw && no_workers) (option_map Trial (option_map number_in number)) (trial_in_range number n)))))))))
+    (where_true (not draw && no_workers) (option_map Trial (option_map number_in number)) (trial_in_range number n))))))))))
 
 pub same_options : (a b m n : Option ℕ) (d e : Bool) → a ≡ b → d ≡ e → m ≡ n
     → ◌≡◌ {A = Options} (record { workers = a; draw = d; number = m }) (record { workers = b; draw = e; number = n })

@@ -15,6 +15,9 @@ pub enum Mode {
     Choose,
     /// Read what `choose` wrote, and write a verdict for each entry and one for the choice.
     CheckChoice,
+    /// Read a row of ranges of case sizes, and write the entry of each size, by 1 to 16 workers, and which covers the most of
+    /// the pallet.
+    Design { workers: u32 },
     /// Read rows of trucks and their pallets, and write what fits on each floor.
     Floor,
     /// Read what `floor` wrote, and write a verdict for each entry and one for each total.
@@ -59,6 +62,7 @@ pub fn mode_for(word: &str, options: Options) -> Option<Mode>
         "upgrade" if absent => Some(Mode::Upgrade),
         "choose" if absent => Some(Mode::Choose),
         "check-choice" if absent => Some(Mode::CheckChoice),
+        "design" if !draw && number.is_none() => Some(Mode::Design { workers: count }),
         "floor" if absent => Some(Mode::Floor),
         "check-floor" if absent => Some(Mode::CheckFloor),
         "trial" if !draw && workers.is_none() => number.map(|number| Mode::Trial { number }),

@@ -14,7 +14,7 @@ impl fmt::Display for Remark {
             Code::Done => Ok(()),
             Code::Findings => f.write_str("pallet: some rows or entries were not accepted"),
             Code::Usage => f.write_str(
-                "usage: pallet plan [--draw] [--workers N] | check [--workers N] | upgrade | choose | check-choice | floor | check-floor | trial --number N",
+                "usage: pallet plan [--draw] [--workers N] | check [--workers N] | upgrade | choose | check-choice | design [--workers N] | floor | check-floor | trial --number N",
             ),
             Code::TooLong => f.write_str("pallet: input too long"),
             Code::NoHeader => f.write_str("pallet: no header"),
@@ -49,7 +49,7 @@ mod tests {
             (
                 Code::Usage,
                 2,
-                "usage: pallet plan [--draw] [--workers N] | check [--workers N] | upgrade | choose | check-choice | floor | check-floor | trial --number N",
+                "usage: pallet plan [--draw] [--workers N] | check [--workers N] | upgrade | choose | check-choice | design [--workers N] | floor | check-floor | trial --number N",
             ),
             (Code::TooLong, 3, "pallet: input too long"),
             (Code::NoHeader, 4, "pallet: no header"),

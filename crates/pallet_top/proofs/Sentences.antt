@@ -6,7 +6,7 @@ use Rattle.plan_io.specs.Streams.{Intake, Outlet}
 use Rattle.run_parts.specs.declared.codes.Code.{Code}
 use Rattle.run_parts.specs.declared.codes.Code.TheVariants.{Done, Findings, Usage, TooLong, NoHeader, TooManyRows, BadReport, ReadFault, WriteFault, Memory}
 use Rattle.command_words.specs.declared.modes.Mode.{Mode}
-use Rattle.command_words.specs.declared.modes.Mode.TheVariants.{Plan, Check, Upgrade, Choose, CheckChoice, Floor, CheckFloor, Trial}
+use Rattle.command_words.specs.declared.modes.Mode.TheVariants.{Plan, Check, Upgrade, Choose, CheckChoice, Design, Floor, CheckFloor, Trial}
 use Rattle.pallet_top.specs.Runs.{Ran, NothingIsWritten, FaultsHaveTheirCause, LinesAreOfBadReports}
 
 -- a run that is refused memory before it touches its streams
@@ -16,6 +16,7 @@ memory_ran (Check workers) from to = record { read = []; wrote = []; given = sym
 memory_ran Upgrade from to = record { read = []; wrote = []; given = sym (append-nil from.given); taken = sym (append-nil to.taken); source_later = omega arith; sink_later = omega arith; means = (inl refl, refl, refl, omega arith, refl) }
 memory_ran Choose from to = (record { read = []; wrote = []; given = sym (append-nil from.given); taken = sym (append-nil to.taken); source_later = omega arith; sink_later = omega arith; means = (inl refl, refl, omega arith) }, refl)
 memory_ran CheckChoice from to = record { read = []; wrote = []; given = sym (append-nil from.given); taken = sym (append-nil to.taken); source_later = omega arith; sink_later = omega arith; means = (inl refl, refl, refl, omega arith, refl) }
+memory_ran (Design workers) from to = (record { read = []; wrote = []; given = sym (append-nil from.given); taken = sym (append-nil to.taken); source_later = omega arith; sink_later = omega arith; means = (inl refl, refl, omega arith) }, refl)
 memory_ran Floor from to = (record { read = []; wrote = []; given = sym (append-nil from.given); taken = sym (append-nil to.taken); source_later = omega arith; sink_later = omega arith; means = (inl refl, refl, omega arith) }, refl)
 memory_ran CheckFloor from to = record { read = []; wrote = []; given = sym (append-nil from.given); taken = sym (append-nil to.taken); source_later = omega arith; sink_later = omega arith; means = (inl refl, refl, refl, omega arith, refl) }
 memory_ran (Trial number) from to = (record { wrote = []; taken = sym (append-nil to.taken); sink_later = omega arith; means = refl }, (refl, refl))
@@ -71,6 +72,16 @@ nothing CheckChoice from to BadReport line from' to' ran w = ran.means.1
 nothing CheckChoice from to ReadFault line from' to' ran w = ran.means.2
 nothing CheckChoice from to WriteFault line from' to' ran w = absurd w
 nothing CheckChoice from to Memory line from' to' ran w = absurd w
+nothing (Design workers) from to Done line from' to' ran w = absurd w
+nothing (Design workers) from to Findings line from' to' ran w = absurd w
+nothing (Design workers) from to Usage line from' to' ran w = absurd ran.0.means
+nothing (Design workers) from to TooLong line from' to' ran w = ran.0.means.1
+nothing (Design workers) from to NoHeader line from' to' ran w = ran.0.means.2
+nothing (Design workers) from to TooManyRows line from' to' ran w = ran.0.means.2
+nothing (Design workers) from to BadReport line from' to' ran w = absurd ran.0.means
+nothing (Design workers) from to ReadFault line from' to' ran w = ran.0.means.2
+nothing (Design workers) from to WriteFault line from' to' ran w = absurd w
+nothing (Design workers) from to Memory line from' to' ran w = absurd w
 nothing Floor from to Done line from' to' ran w = absurd w
 nothing Floor from to Findings line from' to' ran w = absurd w
 nothing Floor from to Usage line from' to' ran w = absurd ran.0.means
@@ -109,6 +120,7 @@ read_cause (Check workers) from to line from' to' ran = ran.means.1
 read_cause Upgrade from to line from' to' ran = ran.means.1
 read_cause Choose from to line from' to' ran = ran.0.means.1
 read_cause CheckChoice from to line from' to' ran = ran.means.1
+read_cause (Design workers) from to line from' to' ran = ran.0.means.1
 read_cause Floor from to line from' to' ran = ran.0.means.1
 read_cause CheckFloor from to line from' to' ran = ran.means.1
 read_cause (Trial number) from to line from' to' ran = absurd ran.0.means
@@ -119,6 +131,7 @@ write_cause (Check workers) from to line from' to' ran = ran.means.2
 write_cause Upgrade from to line from' to' ran = ran.means.2
 write_cause Choose from to line from' to' ran = ran.0.means.2
 write_cause CheckChoice from to line from' to' ran = ran.means.2
+write_cause (Design workers) from to line from' to' ran = ran.0.means.2
 write_cause Floor from to line from' to' ran = ran.0.means.2
 write_cause CheckFloor from to line from' to' ran = ran.means.2
 write_cause (Trial number) from to line from' to' ran = ran.0.means.1
@@ -129,6 +142,7 @@ source_later (Check workers) from to code line from' to' ran = ran.source_later
 source_later Upgrade from to code line from' to' ran = ran.source_later
 source_later Choose from to code line from' to' ran = ran.0.source_later
 source_later CheckChoice from to code line from' to' ran = ran.source_later
+source_later (Design workers) from to code line from' to' ran = ran.0.source_later
 source_later Floor from to code line from' to' ran = ran.0.source_later
 source_later CheckFloor from to code line from' to' ran = ran.source_later
 source_later (Trial number) from to code line from' to' ran = rw ran.1.0 (omega arith)
@@ -139,6 +153,7 @@ sink_later (Check workers) from to code line from' to' ran = ran.sink_later
 sink_later Upgrade from to code line from' to' ran = ran.sink_later
 sink_later Choose from to code line from' to' ran = ran.0.sink_later
 sink_later CheckChoice from to code line from' to' ran = ran.sink_later
+sink_later (Design workers) from to code line from' to' ran = ran.0.sink_later
 sink_later Floor from to code line from' to' ran = ran.0.sink_later
 sink_later CheckFloor from to code line from' to' ran = ran.sink_later
 sink_later (Trial number) from to code line from' to' ran = ran.0.sink_later
@@ -208,6 +223,7 @@ lines CheckChoice from to BadReport line from' to' ran other = absurd (other ref
 lines CheckChoice from to ReadFault line from' to' ran other = ran.means.3
 lines CheckChoice from to WriteFault line from' to' ran other = ran.means.3
 lines CheckChoice from to Memory line from' to' ran other = ran.means.4
+lines (Design workers) from to code line from' to' ran other = ran.1
 lines Floor from to code line from' to' ran other = ran.1
 lines CheckFloor from to Done line from' to' ran other = ran.means.2
 lines CheckFloor from to Findings line from' to' ran other = ran.means.2

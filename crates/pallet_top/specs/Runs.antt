@@ -6,7 +6,7 @@ use Rattle.run_parts.specs.Codes.{WritesNothing, IsDoneOrMemory, IsQuietOrMemory
 use Rattle.run_parts.specs.declared.codes.Code.{Code}
 use Rattle.run_parts.specs.declared.codes.Code.TheVariants.{BadReport, ReadFault, WriteFault}
 use Rattle.command_words.specs.declared.modes.Mode.{Mode}
-use Rattle.command_words.specs.declared.modes.Mode.TheVariants.{Plan, Check, Upgrade, Choose, CheckChoice, Floor, CheckFloor, Trial}
+use Rattle.command_words.specs.declared.modes.Mode.TheVariants.{Plan, Check, Upgrade, Choose, CheckChoice, Design, Floor, CheckFloor, Trial}
 use Rattle.order_reader.specs.declared.rows.Row.{Row}
 use Rattle.plan_mode.specs.OrdersFiles.{HasRows}
 use Rattle.plan_mode.specs.Runs.{PlanRan}
@@ -16,6 +16,9 @@ use Rattle.check_mode.specs.Upgrades.{UpgradeRan}
 use Rattle.choice_mode.specs.Reading.{IsChoiceBytes}
 use Rattle.choice_mode.specs.ChooseRuns.{ChooseRan}
 use Rattle.choice_mode.specs.CheckRuns.{CheckChoiceRan}
+use Rattle.case_design.specs.declared.designs.Design as asked
+use Rattle.design_mode.specs.DesignFiles.{HasDesign}
+use Rattle.design_mode.specs.DesignRuns.{DesignRan}
 use Rattle.floor_mode.specs.FloorsFiles.{HasFloors}
 use Rattle.floor_mode.specs.Reading.{IsFloorBytes}
 use Rattle.floor_mode.specs.FloorRuns.{FloorRan}
@@ -29,6 +32,7 @@ Ran (Check workers) from to code line from' to' = CheckRan from to code line fro
 Ran Upgrade from to code line from' to' = UpgradeRan from to code line from' to'
 Ran Choose from to code line from' to' = ChooseRan from to code from' to' × (line ≡ 0)
 Ran CheckChoice from to code line from' to' = CheckChoiceRan from to code line from' to'
+Ran (Design workers) from to code line from' to' = DesignRan from to code from' to' × (line ≡ 0)
 Ran Floor from to code line from' to' = FloorRan from to code from' to' × (line ≡ 0)
 Ran CheckFloor from to code line from' to' = CheckFloorRan from to code line from' to'
 Ran (Trial number) from to code line from' to' = TrialRan number to code to' × ((from' ≡ from) × (line ≡ 0))
@@ -58,6 +62,10 @@ LinesAreOfBadReports = (mode : Mode) (from : Intake) (to : Outlet) (code : Code)
 abbrev pub IsOrdersFile : List ℕ → Type 0
 IsOrdersFile bytes = (rows : List Row) × HasRows bytes rows
 
+-- the bytes are a file of designs within its limit
+abbrev pub IsDesignsFile : List ℕ → Type 0
+IsDesignsFile bytes = (design : asked.Design) × HasDesign bytes design
+
 -- the bytes are a file of floors within its limits
 abbrev pub IsFloorsFile : List ℕ → Type 0
 IsFloorsFile bytes = (rows : List Row) × HasFloors bytes rows
@@ -69,6 +77,7 @@ IsInputOf (Check workers) read = IsReportFile read
 IsInputOf Upgrade read = IsReportFile read
 IsInputOf Choose read = IsOrdersFile read
 IsInputOf CheckChoice read = IsChoiceBytes read
+IsInputOf (Design workers) read = IsDesignsFile read
 IsInputOf Floor read = IsFloorsFile read
 IsInputOf CheckFloor read = IsFloorBytes read
 IsInputOf (Trial number) read = ⊤
@@ -80,6 +89,7 @@ IsCompleteCode (Check workers) code = IsDoneOrMemory code
 IsCompleteCode Upgrade code = IsQuietOrMemory code
 IsCompleteCode Choose code = IsDoneOrMemory code
 IsCompleteCode CheckChoice code = IsDoneOrMemory code
+IsCompleteCode (Design workers) code = IsDoneOrMemory code
 IsCompleteCode Floor code = IsDoneOrMemory code
 IsCompleteCode CheckFloor code = IsDoneOrMemory code
 IsCompleteCode (Trial number) code = IsQuietOrMemory code

@@ -26,6 +26,7 @@ pub fn runs_are_complete()
     check_mode::upgrades_are_complete();
     choice_mode::choices_are_complete();
     choice_mode::checks_of_choices_are_complete();
+    design_mode::designs_are_complete();
     floor_mode::floors_are_complete();
     floor_mode::checks_of_floors_are_complete();
     trial_mode::trials_are_complete();

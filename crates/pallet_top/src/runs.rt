@@ -42,8 +42,8 @@ pub fn run<R: Threads + Sync, S: Source, K: Sink>(
     run_gated(rt, alloc, &OpenGate, words, source, sink)
 }
 
-/// `run`, where the gate is told of each entry before `check` judges it, and of each order before `plan` plans it. No clause says anything of the gate, nor of the
-/// number of workers.
+/// `run`, where the gate is told of each entry before `check` judges it, and of each order before `plan` or `design` plans it. No
+/// clause says anything of the gate, nor of the number of workers.
 pub fn run_gated<R: Threads + Sync, G: Gate + Sync, S: Source, K: Sink>(
     rt: &R,
     alloc: Global,
@@ -92,6 +92,9 @@ fn run_mode<R: Threads + Sync, G: Gate + Sync, S: Source, K: Sink>(
         Mode::Upgrade => check_mode::upgrade(alloc, source, sink),
         Mode::Choose => plain(choice_mode::choose(alloc, source, sink)),
         Mode::CheckChoice => choice_mode::check_choice(alloc, source, sink),
+        Mode::Design { workers } => plain(design_mode::design(
+            rt, alloc, gate, workers, source, sink,
+        )),
         Mode::Floor => plain(floor_mode::floor(alloc, source, sink)),
         Mode::CheckFloor => floor_mode::check_floor(alloc, source, sink),
         Mode::Trial { number } => plain(trial_mode::trial(alloc, number, sink)),

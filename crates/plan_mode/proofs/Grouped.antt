@@ -1,7 +1,7 @@
 -- Rows that are planned together, and their entries.
 use Rattle.std.proofs.Common.{◌≡◌, ℕ, zero, suc, ◌+◌, ◌-◌, ◌≤◌, ◌<◌, List, [], ◌∷◌, ◌++◌, length, get_or, take, drop, refl, sym, subst, ap, ◌∙◌, arith}
 use Rattle.std.specs.List.{All}
-use Rattle.std.proofs.lemmas.List.{drop_more}
+use Rattle.std.proofs.lemmas.List.{drop_more, take_more, length-take-le}
 use Rattle.std.proofs.lemmas.List.Elements.{All-nil, All-cons}
 use Rattle.order_reader.specs.Orders.{OrderValue}
 use Rattle.order_reader.specs.declared.rows.Row.{Row}
@@ -17,7 +17,7 @@ use Rattle.par_judge.proofs.Joined.{paired-rest}
 use Rattle.plan_mode.specs.Entries.{IsEntryOf, AreEntriesFrom}
 use Rattle.plan_mode.specs.Groups.{orders_from, AreNextEntries}
 use Rattle.plan_mode.specs.Pieces.{IsSoundEntry}
-use Rattle.plan_mode.proofs.EntryFacts.{as_many}
+use Rattle.plan_mode.proofs.EntryFacts.{as_many, entries-more}
 use Rattle.plan_mode.proofs.Acceptance.{refused_in_range}
 
 -- the orders of at most so many rows are numbered as entries may be, and no more than the rows
@@ -61,6 +61,22 @@ entry-sound n (row.Order o) (Planned p) h = h.sound
 entry-sound n (row.Order o) (Refused m fault) h = absurd h
 entry-sound n (row.Refused k fault) (Planned p) h = absurd h
 entry-sound n (row.Refused k fault) (Refused m told) h = tt
+
+-- the entry of the next row joins those of the rows before it
+pub entry-joins : (rows : List Row) (i : ℕ) (es : List Entry) (e : Entry) → i + 1 ≤ length rows → AreEntriesFrom 1 (take i rows) es → ((d : Row) → IsEntryOf (i + 1) (get_or rows i d) e) → AreEntriesFrom 1 (take (i + 1) rows) (es ++ e ∷ [])
+entry-joins [] i es e inside each of_row = absurd (omega (arith, inside))
+entry-joins (d ∷ ds) i es e inside each of_row =
+    let rows = d ∷ ds in
+    let count : i + 1 ≡ 1 + length (take i rows) = omega (arith, length-take-le i rows (omega arith)) in
+    let here : IsEntryOf (1 + length (take i rows)) (get_or rows i d) e = subst (λ n. IsEntryOf n (get_or rows i d) e) count (of_row d) in
+    rw (take_more rows i d (omega arith)) (entries-more 1 (take i rows) es (get_or rows i d) e each here)
+
+-- an entry of one of the rows is within the ranges, and a plan is sound
+pub of-some-row : (rows : List Row) (i : ℕ) (e : Entry) → i < length rows → length rows ≤ 256 → ((d : Row) → IsEntryOf (i + 1) (get_or rows i d) e) → IsInRange Two e × IsSoundEntry e
+of-some-row [] i e inside few of_row = absurd (omega (arith, inside))
+of-some-row (d ∷ ds) i e inside few of_row =
+    let r = get_or (d ∷ ds) i d in
+    (entry-in_range (i + 1) r e (omega arith) (omega (arith, inside, few)) (of_row d), entry-sound (i + 1) r e (of_row d))
 
 -- ---- the entries ahead
 

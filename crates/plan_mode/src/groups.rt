@@ -98,7 +98,7 @@ fn next_group<R: Threads + Sync, G: Gate + Sync>(
 
 /// The entry of the row of this number: the next of those that were planned ahead, where there are some, else the first of
 /// those of as many rows as there are workers, whose others stand ahead from then on.
-pub(crate) fn next_entry<R: Threads + Sync, G: Gate + Sync>(
+pub fn next_entry<R: Threads + Sync, G: Gate + Sync>(
     rt: &R,
     alloc: Global,
     gate: &G,

@@ -8,6 +8,7 @@ mod pieces;
 mod reports;
 
 pub use entries::plan_row;
+pub use groups::next_entry;
 pub use laws::plans_are_complete;
 pub use reports::{plan, read_rows};
 

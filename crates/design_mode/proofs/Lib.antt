@@ -1,0 +1,5 @@
+pub mod EntryCovers
+pub mod Areas
+pub mod Shown
+pub mod Sizes
+pub mod Truth

@@ -1,0 +1,5 @@
+pub mod Covers
+pub mod DesignFiles
+pub mod Designing
+pub mod DesignRuns
+pub mod Laws
