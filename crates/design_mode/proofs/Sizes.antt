@@ -83,12 +83,12 @@ by-small : (o : OrderValue) (b : Bool) → fits (pallet_x_of o) (pallet_y_of o) 
     → (sides_fault o ≡ None) ⊎ (DoesNotFitOn o ⊎ (sides_fault o ≡ Some TooManyCases))
 by-small o true fit small =
     inl (
-      ap (λ (x : Bool). first_of ((if x then None else Some DoesNotFit) ∷ case_count_fault o ∷ [])) fit
-      ∙ ap (λ (x : Bool). first_of ((if x then None else Some TooManyCases) ∷ [])) small)
+    ap (λ (x : Bool). first_of ((if x then None else Some DoesNotFit) ∷ case_count_fault o ∷ [])) fit
+    ∙ ap (λ (x : Bool). first_of ((if x then None else Some TooManyCases) ∷ [])) small)
 by-small o false fit small =
     inr (inr (
-      ap (λ (x : Bool). first_of ((if x then None else Some DoesNotFit) ∷ case_count_fault o ∷ [])) fit
-      ∙ ap (λ (x : Bool). first_of ((if x then None else Some TooManyCases) ∷ [])) small))
+    ap (λ (x : Bool). first_of ((if x then None else Some DoesNotFit) ∷ case_count_fault o ∷ [])) fit
+    ∙ ap (λ (x : Bool). first_of ((if x then None else Some TooManyCases) ∷ [])) small))
 
 by-fit : (o : OrderValue) (b : Bool) → fits (pallet_x_of o) (pallet_y_of o) (long_of o) (short_of o) ≡ b → (sides_fault o ≡ None) ⊎ (DoesNotFitOn o ⊎ (sides_fault o ≡ Some TooManyCases))
 by-fit o true fit = by-small o (is_small (pallet_x_of o + gap_of o) (pallet_y_of o + gap_of o) (long_of o + gap_of o) (short_of o + gap_of o)) fit refl

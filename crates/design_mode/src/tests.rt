@@ -36,7 +36,11 @@ fn two_sizes(rt: HostRuntime) -> Result<(), Fail> {
     let row = "D,5,5,3,3,2,3,1\n";
     let (code, one) = designed(&rt, alloc, 1, row, ROOM, Vec::new(alloc))?;
     assert!(rt; code == Code::Done);
-    assert!(rt; one.starts_with(b"pallet-design 1\nid D\nentry 1\nid D\norder 5 5 3 2 1 1 1 100000000 0 0 100 0\n"));
+    assert!(rt;
+        one.starts_with(
+            b"pallet-design 1\nid D\nentry 1\nid D\norder 5 5 3 2 1 1 1 100000000 0 0 100 0\n"
+        )
+    );
     assert!(rt; one.ends_with(b"\nend\nbest 1 covers 24\ndone 2\n"));
     let (code, two) = designed(&rt, alloc, 2, row, ROOM, Vec::new(alloc))?;
     assert!(rt; code == Code::Done && two.as_slice() == one.as_slice());

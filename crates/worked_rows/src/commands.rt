@@ -11,6 +11,8 @@ fn refused_words(rt: HostRuntime) -> Result<(), Fail> {
         "",
         "plan plan",
         "plan --workers 17",
+        "design --draw",
+        "design --workers 0",
         "floor --workers 2",
         "check --workers 17",
         "check --draw",

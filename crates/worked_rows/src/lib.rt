@@ -8,6 +8,8 @@ mod choices;
 #[cfg(test)]
 mod commands;
 #[cfg(test)]
+mod designs;
+#[cfg(test)]
 mod examples;
 #[cfg(test)]
 mod faults;

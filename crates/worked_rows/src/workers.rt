@@ -1,3 +1,4 @@
+use crate::examples::DOZEN;
 use crate::runs::{file, ran};
 use pallet_top::{Code, Gate, run_gated};
 use plan_io::{MemSink, MemSource};
@@ -109,6 +110,40 @@ fn same_verdicts(rt: HostRuntime) -> Result<(), Fail> {
             answer.written.as_slice() == b"entry 1 yes\nentry 2 refused\ndone 2\n".as_slice()
         );
     }
+    Ok(())
+}
+
+// What is planned is the same for any number of workers.
+#[test]
+fn same_plans(rt: HostRuntime) -> Result<(), Fail> {
+    let alloc = rt.alloc();
+    let orders = file(alloc, DOZEN)?;
+    let plain = ran(&rt, alloc, "plan", &orders)?;
+    assert!(rt; plain.code == Code::Findings);
+    for words in ["plan --workers 1", "plan --workers 2", "plan --workers 16"] {
+        let answer = ran(&rt, alloc, words, &orders)?;
+        assert!(rt;
+            answer.code == plain.code && answer.written.as_slice() == plain.written.as_slice(),
+            "{words}"
+        );
+    }
+    Ok(())
+}
+
+// Four rows that four workers plan.
+#[test]
+fn four_workers(rt: HostRuntime) -> Result<(), Fail> {
+    let alloc = rt.alloc();
+    let rows =
+        "\nA,5,5,3,2,1,10,2,1000,100,1,20\nB,6,6,4,1,1,1,1,1000,0,0,100\nC,3,10,11,4,1,10,1,1000,0,0,100\nD,6,6,5,1,1,1,1,1000,0,0,100";
+    let planned = ran(&rt, alloc, "plan --workers 4", &file(alloc, rows)?)?;
+    assert!(rt; planned.code == Code::Findings);
+    let judged = ran(&rt, alloc, "check", &planned.written)?;
+    assert!(rt; judged.code == Code::Done);
+    assert!(rt;
+        judged.written.as_slice()
+            == b"entry 1 yes\nentry 2 yes\nentry 3 refused\nentry 4 yes\ndone 4\n".as_slice()
+    );
     Ok(())
 }
 

@@ -1,7 +1,7 @@
 use Rattle.std.proofs.Common.{◌≡◌, ◌∙◌, ◌++◌, [], List, ℕ, Option, length, ap, inl, inr, refl, sym, subst, rules}
 use Rattle.std.specs.Prelude.{IsErrOf, ◌||◌}
 use Rattle.cert_text.specs.declared.forms.Form.TheVariants.{Two}
-use Rattle.run_parts.specs.declared.parts.WriteStop.TheVariants.{Fault}
+use Rattle.run_parts.specs.declared.parts.WriteStop.TheVariants.{Fault, Memory}
 use Rattle.run_parts.specs.Written.{Wrote, WrotePart}
 use Rattle.run_parts.proofs.Pieces.{wrote-trans, part-then, part-more}
 use Rattle.order_reader.specs.declared.rows.Row.{Row}
@@ -41,3 +41,70 @@ returns-in_err-covers-clause-part g c = λ is.
     let first_of : AreFirstEntriesOf (rows_in c.args.design.now) es = subst (λ (rs : List Row). AreFirstEntriesOf rs es) c.rows_of-rows.ensures first in
     let head : Wrote (g.K.Sink.past c.args.sink.now) (g.K.Sink.past c.send.new.sink) head_is = search rules in
     (es, [], first_of, inl refl, part-then _ _ _ head_is _ head (part-more _ _ (entries_text Two es) [] part))
+
+pub returns-in_err-covers-clause-memory : goal.returns-in_err-covers-clause-memory
+returns-in_err-covers-clause-memory g c = λ is.
+    let head_is = head_text c.args.design.now in
+    let failed : IsErrOf c.write_entries.result Memory = search rules in
+    let (es, first, wrote) = c.write_entries.ensures.memory failed in
+    let first_of : AreFirstEntriesOf (rows_in c.args.design.now) es = subst (λ (rs : List Row). AreFirstEntriesOf rs es) c.rows_of-rows.ensures first in
+    let head : Wrote (g.K.Sink.past c.args.sink.now) (g.K.Sink.past c.send.new.sink) head_is = search rules in
+    inr (es, first_of, wrote-trans _ _ _ head_is (entries_text Two es) head wrote)
+
+pub returns-in_default-ending-clause-memory : goal.returns-in_default-ending-clause-memory
+returns-in_default-ending-clause-memory g c = λ is.
+    let head_is = head_text c.args.design.now in
+    let (es, are, covers, wrote) = c.in_ok-covers.ensures.ok in
+    let are_of : AreEntriesOf (rows_in c.args.design.now) es = subst (λ (rs : List Row). AreEntriesOf rs es) c.rows_of-rows.ensures are in
+    let head : Wrote (g.K.Sink.past c.args.sink.now) (g.K.Sink.past c.send.new.sink) head_is = search rules in
+    inr (es, all-first (rows_in c.args.design.now) es are_of, wrote-trans _ _ _ head_is (entries_text Two es) head wrote)
+
+pub returns-in_err-send-2-clause-part : goal.returns-in_err-send-2-clause-part
+returns-in_err-send-2-clause-part g c = λ is.
+    let design = c.args.design.now in
+    let rows = rows_in design in
+    let head_is = head_text design in
+    let (es, are, covers, wrote) = c.in_ok-covers.ensures.ok in
+    let are_of : AreEntriesOf rows es = subst (λ (rs : List Row). AreEntriesOf rs es) c.rows_of-rows.ensures are in
+    let (best, rivals, is_best, text) = c.in-Ok-ending.ensures in
+    let head : Wrote (g.K.Sink.past c.args.sink.now) (g.K.Sink.past c.send.new.sink) head_is = search rules in
+    let last : WrotePart (g.K.Sink.past c.write_entries.new.sink) (g.K.Sink.past c.send-2.new.sink) c.in-Ok-ending.last.items = search rules in
+    let all = as_many 1 rows es are_of in
+    let same : length rows ≡ length c.rows_of-rows.result.now = ap (λ (rs : List Row). length rs) (sym c.rows_of-rows.ensures) in (
+      es,
+      c.in-Ok-ending.last.items,
+      all-first rows es are_of,
+      inr (
+        all,
+        record {
+          best = best;
+          rivals = rivals;
+          is_best = of-entries _ es best rivals (c.deref-2.ensures.value ∙ covers) is_best;
+          text = text ∙ told-count design best rivals _ _ (all ∙ same);
+        },
+      ),
+      part-then _ _ _ head_is _ head (part-then _ _ _ (entries_text Two es) _ wrote last),
+    )
+
+pub returns-clause-ok : goal.returns-clause-ok
+returns-clause-ok g c =
+    let design = c.args.design.now in
+    let rows = rows_in design in
+    let head_is = head_text design in
+    let (es, are, covers, wrote) = c.in_ok-covers.ensures.ok in
+    let are_of : AreEntriesOf rows es = subst (λ (rs : List Row). AreEntriesOf rs es) c.rows_of-rows.ensures are in
+    let (best, rivals, is_best, text) = c.in-Ok-ending.ensures in
+    let head : Wrote (g.K.Sink.past c.args.sink.now) (g.K.Sink.past c.send.new.sink) head_is = search rules in
+    let last : Wrote (g.K.Sink.past c.write_entries.new.sink) (g.K.Sink.past c.send-2.new.sink) c.in-Ok-ending.last.items = search rules in
+    let count : c.len.result ≡ length c.in_ok-covers.covers.items = search rules in
+    let all = as_many 1 rows es are_of in
+    let same : length rows ≡ length c.rows_of-rows.result.now = ap (λ (rs : List Row). length rs) (sym c.rows_of-rows.ensures) in (
+      es,
+      best,
+      rivals,
+      are_of,
+      are_accepted rows es c.requires.few are_of,
+      of-entries _ es best rivals (c.deref-2.ensures.value ∙ covers) is_best,
+      ap (λ b. is_row_refused design || b) (refused-by es c.len.result (length rows) (count ∙ ap (λ (cs : List Cover). length cs) covers) (sym all)),
+      wrote-trans _ _ _ head_is _ head (wrote-trans _ _ _ (entries_text Two es) _ wrote (subst (Wrote _ _) (text ∙ told-count design best rivals _ _ (all ∙ same)) last)),
+    )
