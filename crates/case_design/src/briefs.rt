@@ -12,17 +12,17 @@ use order_reader::is_id;
 
 /// The pallet, and the ranges of the case's sizes. All lengths share one unit.
 #[derive(Clone, Copy)]
-pub(crate) struct Brief {
-    pub(crate) pallet_x: u32,
-    pub(crate) pallet_y: u32,
+pub struct Brief {
+    pub pallet_x: u32,
+    pub pallet_y: u32,
     /// The least and the greatest longer side.
-    pub(crate) long_from: u32,
-    pub(crate) long_to: u32,
+    pub long_from: u32,
+    pub long_to: u32,
     /// The least and the greatest shorter side.
-    pub(crate) short_from: u32,
-    pub(crate) short_to: u32,
+    pub short_from: u32,
+    pub short_to: u32,
     /// The least product of both sides.
-    pub(crate) least_area: u32,
+    pub least_area: u32,
 }
 
 // The id of a row, empty where the row has no field.

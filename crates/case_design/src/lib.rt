@@ -12,6 +12,7 @@ mod puts;
 mod sizes;
 
 pub use best::{Best, Cover, best_cover};
+pub use briefs::Brief;
 pub use designs::{Design, read_design};
 pub use faults::{DesignFault, DesignStop};
 pub use laws::{
@@ -19,6 +20,7 @@ pub use laws::{
 };
 pub use plan_memory::Memory;
 pub use puts::{put_best, put_design_head};
+pub use sizes::Size;
 
 #[cfg(test)]
 mod tests;

@@ -14,11 +14,11 @@ use plan_memory::Memory;
 use std::alloc::Global;
 use std::ops::Range;
 
-/// The outside sides of a case.
+/// The outside sides of a case, the longer first.
 #[derive(Clone, Copy)]
-pub(crate) struct Size {
-    pub(crate) long: u32,
-    pub(crate) short: u32,
+pub struct Size {
+    pub long: u32,
+    pub short: u32,
 }
 
 // The shorter sides that go with a longer one.

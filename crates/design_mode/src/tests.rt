@@ -1,3 +1,5 @@
+ghost use Rattle.std.specs.Prelude.{◌≤◌};
+
 use crate::design;
 use par_judge::OpenGate;
 use plan_io::{MemSink, MemSource};
@@ -20,7 +22,10 @@ fn designed<R: Threads + Sync>(
     row: &str,
     room: usize,
     failing: Vec<u64>,
-) -> Result<(Code, Vec<u8>), Fail> {
+) -> Result<(Code, Vec<u8>), Fail>
+    requires some { 1 ≤ workers }
+    requires limited { workers ≤ 16 }
+{
     let mut file = HEADER.as_bytes().to_vec(alloc)?;
     file.extend_from_slice(row.as_bytes())?;
     let mut source = MemSource::new(file, 50, Vec::new(alloc));

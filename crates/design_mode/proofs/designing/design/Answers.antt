@@ -9,17 +9,17 @@ use Rattle.design_mode.proofs.designing.design.Goals as goal
 pub returns-in-Ok-true-clause-untouched : goal.returns-in-Ok-true-clause-untouched
 returns-in-Ok-true-clause-untouched g c = λ _ same.
     let (es, best, rivals, are, accepted, is_best, found, wrote) = c.in-Ok-true.ensures.ok in
-    absurd (head-shows _ _ _ _ wrote same)
+    absurd (head-shows c.in-Ok.asked _ _ _ wrote same)
 
 pub returns-in-Ok-false-clause-untouched : goal.returns-in-Ok-false-clause-untouched
 returns-in-Ok-false-clause-untouched g c = λ _ same.
     let (es, best, rivals, are, accepted, is_best, found, wrote) = c.in-Ok-false.ensures.ok in
-    absurd (head-shows _ _ _ _ wrote same)
+    absurd (head-shows c.in-Ok.asked _ _ _ wrote same)
 
 pub returns-clause-untouched : goal.returns-clause-untouched
 returns-clause-untouched g c = λ _ same.
     let refused : IsErrOf c.write_design.result Memory = search rules in
     elim (c.write_design.ensures.memory refused) [
       | inl untouched ↦ untouched
-      | inr (es, first, wrote) ↦ absurd (head-shows _ (entries_text Two es) _ _ wrote same)
+      | inr (es, first, wrote) ↦ absurd (head-shows c.in-Ok.asked (entries_text Two es) _ _ wrote same)
     ]
