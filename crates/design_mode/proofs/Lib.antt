@@ -3,3 +3,4 @@ pub mod Areas
 pub mod Shown
 pub mod Sizes
 pub mod Truth
+pub mod Ran

@@ -111,7 +111,8 @@ fn write_design<R: Threads + Sync, G: Gate + Sync, K: Sink>(
         return Err(WriteStop::Memory);
     };
     send(sink, &last)?;
-    Ok(is_refused(design) || covers.len() < rows.len())
+    let some_refused = covers.len() < rows.len();
+    Ok(is_refused(design) || some_refused)
 }
 
 // Whether the file's one row is refused.

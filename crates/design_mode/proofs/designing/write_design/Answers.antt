@@ -1,5 +1,6 @@
 use Rattle.std.proofs.Common.{◌≡◌, ◌∙◌, ◌++◌, [], List, ℕ, Option, length, ap, inl, inr, refl, sym, subst, rules}
-use Rattle.std.specs.Prelude.{IsErrOf, ◌||◌}
+use Rattle.std.specs.Prelude.{IsErrOf, ◌||◌, Bool, true, false, nat_lt}
+use Rattle.plan_entries.specs.Entries.{any_refused}
 use Rattle.cert_text.specs.declared.forms.Form.TheVariants.{Two}
 use Rattle.run_parts.specs.declared.parts.WriteStop.TheVariants.{Fault, Memory}
 use Rattle.run_parts.specs.Written.{Wrote, WrotePart}
@@ -19,10 +20,17 @@ use Rattle.design_mode.specs.Covers.{covers_of}
 use Rattle.design_mode.specs.Designing.{is_row_refused, end_text}
 use Rattle.design_mode.proofs.EntryCovers.{refused-by}
 use Rattle.design_mode.proofs.designing.write_design.Goals as goal
+use Rattle.design_mode.proofs.designing.write_design.Goals.{then-is_refused, else-is_refused}
 
 -- the best of those covers is that of the entries
 of-entries : (covers : List Cover) (es : List Entry) (best : Option Cover) (rivals : List Cover) → covers ≡ covers_of es → IsBest covers best rivals → IsBest (covers_of es) best rivals
 of-entries covers es best rivals same is = subst (λ (cs : List Cover). IsBest cs best rivals) same is
+
+either-true : (a b c : Bool) → a ≡ true → c ≡ true → (a || b) ≡ c
+either-true a b c first both = ap (λ x. x || b) first ∙ sym both
+
+either-false : (a b c d : Bool) → a ≡ false → b ≡ d → c ≡ d → (a || b) ≡ c
+either-false a b c d first second both = ap (λ x. x || b) first ∙ second ∙ sym both
 
 -- there are as many entries as rows
 told-count : (design : Design) (best : Option Cover) (rivals : List Cover) (m n : ℕ) → m ≡ n → end_text design best rivals n ≡ end_text design best rivals m
@@ -98,13 +106,19 @@ returns-clause-ok g c =
     let last : Wrote (g.K.Sink.past c.write_entries.new.sink) (g.K.Sink.past c.send-2.new.sink) c.in-Ok-ending.last.items = search rules in
     let count : c.len.result ≡ length c.in_ok-covers.covers.items = search rules in
     let all = as_many 1 rows es are_of in
-    let same : length rows ≡ length c.rows_of-rows.result.now = ap (λ (rs : List Row). length rs) (sym c.rows_of-rows.ensures) in (
+    let same : length rows ≡ length c.rows_of-rows.result.now = ap (λ (rs : List Row). length rs) (sym c.rows_of-rows.ensures) in
+    let some : any_refused es ≡ nat_lt c.len.result (length rows) = refused-by es c.len.result (length rows) (count ∙ ap (λ (cs : List Cover). length cs) covers) (sym all) in
+    let found : (is_row_refused design || any_refused es) ≡ c.if-is_refused.result =
+    elim c.if-is_refused.branch [
+      | then-is_refused w ↦ either-true (is_row_refused design) (any_refused es) c.if-is_refused.result (search rules) (search rules)
+      | else-is_refused w ↦ either-false (is_row_refused design) (any_refused es) c.if-is_refused.result (nat_lt c.len.result (length rows)) (search rules) some (search rules)
+    ] in (
       es,
       best,
       rivals,
       are_of,
       are_accepted rows es c.requires.few are_of,
       of-entries _ es best rivals (c.deref-2.ensures.value ∙ covers) is_best,
-      ap (λ b. is_row_refused design || b) (refused-by es c.len.result (length rows) (count ∙ ap (λ (cs : List Cover). length cs) covers) (sym all)),
+      found,
       wrote-trans _ _ _ head_is _ head (wrote-trans _ _ _ (entries_text Two es) _ wrote (subst (Wrote _ _) (text ∙ told-count design best rivals _ _ (all ∙ same)) last)),
     )
