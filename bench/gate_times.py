@@ -65,7 +65,7 @@ def words_of(pid):
 def part_of(pid):
     """The crate and the part that a check is for; None for any other process."""
     words = words_of(pid)
-    if len(words) < 4 or not words[0].endswith("/rattle") or words[1] != "check":
+    if len(words) < 4 or not words[0].endswith("/rattle") or words[1] not in ("check", "build"):
         return None
     crate = words[words.index("--crate-name") + 1] if "--crate-name" in words else "?"
     try:
