@@ -6,8 +6,43 @@ use std::test::Fail;
 use texts::{count_lines, next_line, put_named};
 
 // A pallet of 1 by 1, one of 3 by 1 that could hold a case more, and a row that does not fit: 36 lines.
-static THREE: &[u8] =
-    b"pallet-choice 1\nentry 1\nid A\norder 1 1 1 1 1 1 1 1 0 0 100 0\nreduced 1 1 1 1\ncount 1\nbound 1\nstatus optimal\ncert given-area\nlayers 1\nlayer 1 same\n0 0 L\nallowed 1\nstack 1\nend\nentry 2\nid B\norder 3 1 1 1 1 1 1 3 0 0 100 0\nreduced 3 1 1 1\ncount 2\nbound 3\nstatus open\ncert given-area\nlayers 1\nlayer 1 same\n0 0 L\n1 0 L\nallowed 1\nstack 1\nend\nentry 3\nrefused DoesNotFit\nend\nchosen 2 count 2\nrival 2 bound 3\ndone 3\n";
+static THREE: &[u8] = b"\
+    pallet-choice 1\n\
+    entry 1\n\
+    id A\n\
+    order 1 1 1 1 1 1 1 1 0 0 100 0\n\
+    reduced 1 1 1 1\n\
+    count 1\n\
+    bound 1\n\
+    status optimal\n\
+    cert given-area\n\
+    layers 1\n\
+    layer 1 same\n\
+    0 0 L\n\
+    allowed 1\n\
+    stack 1\n\
+    end\n\
+    entry 2\n\
+    id B\n\
+    order 3 1 1 1 1 1 1 3 0 0 100 0\n\
+    reduced 3 1 1 1\n\
+    count 2\n\
+    bound 3\n\
+    status open\n\
+    cert given-area\n\
+    layers 1\n\
+    layer 1 same\n\
+    0 0 L\n\
+    1 0 L\n\
+    allowed 1\n\
+    stack 1\n\
+    end\n\
+    entry 3\n\
+    refused DoesNotFit\n\
+    end\n\
+    chosen 2 count 2\n\
+    rival 2 bound 3\n\
+    done 3\n";
 
 static REFUSED: &[u8] =
     b"pallet-choice 1\nentry 1\nrefused BadId\nend\nentry 2\nrefused OutOfRange gap\nend\nchosen none\ndone 2\n";

@@ -12,8 +12,46 @@ use texts::{count_lines, next_line, put_named};
 use truck_floor::Total;
 
 // A floor of 2 by 1 for pallets of 1 by 1 with one case each, and a row of too few fields: 39 lines.
-static TWO: &[u8] =
-    b"pallet-floor 1\nentry 1\nid T\norder 2 1 1 1 1 1 1 100000000 0 0 100 0\nreduced 2 1 1 1\ncount 2\nbound 2\nstatus optimal\ncert given-area\nlayers 1\nlayer 1 same\n0 0 L\n1 0 L\nallowed 1\nstack 1\nend\nentry 2\nid T\norder 1 1 1 1 1 1 1 3 0 0 100 0\nreduced 1 1 1 1\ncount 1\nbound 1\nstatus optimal\ncert given-area\nlayers 1\nlayer 1 same\n0 0 L\nallowed 1\nstack 1\nend\ntotal 2 x 1 of 2 x 1 optimal\nentry 3\nrefused FieldCount\nend\nentry 4\nrefused FieldCount\nend\ntotal none\ndone 4\n";
+static TWO: &[u8] = b"\
+    pallet-floor 1\n\
+    entry 1\n\
+    id T\n\
+    order 2 1 1 1 1 1 1 100000000 0 0 100 0\n\
+    reduced 2 1 1 1\n\
+    count 2\n\
+    bound 2\n\
+    status optimal\n\
+    cert given-area\n\
+    layers 1\n\
+    layer 1 same\n\
+    0 0 L\n\
+    1 0 L\n\
+    allowed 1\n\
+    stack 1\n\
+    end\n\
+    entry 2\n\
+    id T\n\
+    order 1 1 1 1 1 1 1 3 0 0 100 0\n\
+    reduced 1 1 1 1\n\
+    count 1\n\
+    bound 1\n\
+    status optimal\n\
+    cert given-area\n\
+    layers 1\n\
+    layer 1 same\n\
+    0 0 L\n\
+    allowed 1\n\
+    stack 1\n\
+    end\n\
+    total 2 x 1 of 2 x 1 optimal\n\
+    entry 3\n\
+    refused FieldCount\n\
+    end\n\
+    entry 4\n\
+    refused FieldCount\n\
+    end\n\
+    total none\n\
+    done 4\n";
 
 static NONE: &[u8] = b"pallet-floor 1\ndone 0\n";
 

@@ -8,18 +8,116 @@ use std::test::Fail;
 use texts::next_line;
 
 // The report of a pallet of 5 by 5 in the first form: 26 lines.
-static OLD: &[u8] =
-    b"pallet-report 1\nentry 1\nid A\norder 5 5 3 2 1 10 2 1000 100 1 20\nreduced 5 5 3 2\ncount 4\nbound 4\nstatus optimal\ncert weighted\nweighting area\ntree .\nlayers 2\nlayer 1 same\n0 0 L\n3 0 S\n0 2 S\n2 3 L\nlayer 2 mirror-x\n0 0 S\n2 0 L\n3 2 S\n0 3 L\nallowed 2\nstack 1 2\nend\ndone 1\n";
+static OLD: &[u8] = b"\
+    pallet-report 1\n\
+    entry 1\n\
+    id A\n\
+    order 5 5 3 2 1 10 2 1000 100 1 20\n\
+    reduced 5 5 3 2\n\
+    count 4\n\
+    bound 4\n\
+    status optimal\n\
+    cert weighted\n\
+    weighting area\n\
+    tree .\n\
+    layers 2\n\
+    layer 1 same\n\
+    0 0 L\n\
+    3 0 S\n\
+    0 2 S\n\
+    2 3 L\n\
+    layer 2 mirror-x\n\
+    0 0 S\n\
+    2 0 L\n\
+    3 2 S\n\
+    0 3 L\n\
+    allowed 2\n\
+    stack 1 2\n\
+    end\n\
+    done 1\n";
 
-static NEW: &[u8] =
-    b"pallet-report 2\nentry 1\nid A\norder 5 5 3 2 1 10 2 1000 100 1 20 0\nreduced 5 5 3 2\ncount 4\nbound 4\nstatus optimal\ncert weighted\nweighting area\ntree .\nlayers 2\nlayer 1 same\n0 0 L\n3 0 S\n0 2 S\n2 3 L\nlayer 2 mirror-x\n0 0 S\n2 0 L\n3 2 S\n0 3 L\nallowed 2\nstack 1 2\nend\ndone 1\n";
+static NEW: &[u8] = b"\
+    pallet-report 2\n\
+    entry 1\n\
+    id A\n\
+    order 5 5 3 2 1 10 2 1000 100 1 20 0\n\
+    reduced 5 5 3 2\n\
+    count 4\n\
+    bound 4\n\
+    status optimal\n\
+    cert weighted\n\
+    weighting area\n\
+    tree .\n\
+    layers 2\n\
+    layer 1 same\n\
+    0 0 L\n\
+    3 0 S\n\
+    0 2 S\n\
+    2 3 L\n\
+    layer 2 mirror-x\n\
+    0 0 S\n\
+    2 0 L\n\
+    3 2 S\n\
+    0 3 L\n\
+    allowed 2\n\
+    stack 1 2\n\
+    end\n\
+    done 1\n";
 
 // The report of a pallet of 1,200 by 800.
-static OLD_PALLET: &[u8] =
-    b"pallet-report 1\nentry 1\nid EUR-400\norder 1200 800 400 300 220 8000 1600 1000000 70 0 100\nreduced 12 8 4 3\ncount 8\nbound 8\nstatus optimal\ncert weighted\nweighting area\ntree .\nlayers 1\nlayer 1 same\n0 0 S\n300 0 S\n600 0 S\n900 0 S\n0 400 S\n300 400 S\n600 400 S\n900 400 S\nallowed 7\nstack 1 1 1 1 1 1 1\nend\ndone 1\n";
+static OLD_PALLET: &[u8] = b"\
+    pallet-report 1\n\
+    entry 1\n\
+    id EUR-400\n\
+    order 1200 800 400 300 220 8000 1600 1000000 70 0 100\n\
+    reduced 12 8 4 3\n\
+    count 8\n\
+    bound 8\n\
+    status optimal\n\
+    cert weighted\n\
+    weighting area\n\
+    tree .\n\
+    layers 1\n\
+    layer 1 same\n\
+    0 0 S\n\
+    300 0 S\n\
+    600 0 S\n\
+    900 0 S\n\
+    0 400 S\n\
+    300 400 S\n\
+    600 400 S\n\
+    900 400 S\n\
+    allowed 7\n\
+    stack 1 1 1 1 1 1 1\n\
+    end\n\
+    done 1\n";
 
-static NEW_PALLET: &[u8] =
-    b"pallet-report 2\nentry 1\nid EUR-400\norder 1200 800 400 300 220 8000 1600 1000000 70 0 100 0\nreduced 12 8 4 3\ncount 8\nbound 8\nstatus optimal\ncert weighted\nweighting area\ntree .\nlayers 1\nlayer 1 same\n0 0 S\n300 0 S\n600 0 S\n900 0 S\n0 400 S\n300 400 S\n600 400 S\n900 400 S\nallowed 7\nstack 1 1 1 1 1 1 1\nend\ndone 1\n";
+static NEW_PALLET: &[u8] = b"\
+    pallet-report 2\n\
+    entry 1\n\
+    id EUR-400\n\
+    order 1200 800 400 300 220 8000 1600 1000000 70 0 100 0\n\
+    reduced 12 8 4 3\n\
+    count 8\n\
+    bound 8\n\
+    status optimal\n\
+    cert weighted\n\
+    weighting area\n\
+    tree .\n\
+    layers 1\n\
+    layer 1 same\n\
+    0 0 S\n\
+    300 0 S\n\
+    600 0 S\n\
+    900 0 S\n\
+    0 400 S\n\
+    300 400 S\n\
+    600 400 S\n\
+    900 400 S\n\
+    allowed 7\n\
+    stack 1 1 1 1 1 1 1\n\
+    end\n\
+    done 1\n";
 
 // The same report in today's form.
 fn rewritten(alloc: Global, text: &[u8]) -> Result<Vec<u8>, Fail> {

@@ -3,8 +3,29 @@ use pallet_top::Code;
 use std::test::Fail;
 
 /// A report of one case of 3 by 3 on 5 by 5, in the old form, without the lines of its certificate.
-const ONE_CASE: &str =
-    "pallet-report 1\nentry 1\nid A\norder 5 5 3 3 1 10 1 1000 0 0 100\nreduced 5 5 3 3\ncount 1\nbound 1\nstatus optimal\nCERT\nlayers 4\nlayer 1 same\n0 0 L\nlayer 2 mirror-x\n2 0 L\nlayer 3 mirror-y\n0 2 L\nlayer 4 half-turn\n2 2 L\nallowed 1\nstack 1\nend\ndone 1\n";
+const ONE_CASE: &str = "\
+    pallet-report 1\n\
+    entry 1\n\
+    id A\n\
+    order 5 5 3 3 1 10 1 1000 0 0 100\n\
+    reduced 5 5 3 3\n\
+    count 1\n\
+    bound 1\n\
+    status optimal\n\
+    CERT\n\
+    layers 4\n\
+    layer 1 same\n\
+    0 0 L\n\
+    layer 2 mirror-x\n\
+    2 0 L\n\
+    layer 3 mirror-y\n\
+    0 2 L\n\
+    layer 4 half-turn\n\
+    2 2 L\n\
+    allowed 1\n\
+    stack 1\n\
+    end\n\
+    done 1\n";
 
 #[test]
 fn certificates(rt: HostRuntime) -> Result<(), Fail> {

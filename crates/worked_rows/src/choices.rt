@@ -6,8 +6,67 @@ use std::thread::Threads;
 
 /// A choice of two entries: four cases on 5 by 5, and eight on 6 by 6 with a bound of nine, so that the chosen entry is its
 /// own rival.
-const OWN_RIVAL: &str =
-    "pallet-choice 1\nentry 1\nid A\norder 5 5 3 2 1 10 2 1000 100 1 20 0\nreduced 5 5 3 2\ncount 4\nbound 4\nstatus optimal\ncert weighted\nweighting area\ntree .\nlayers 2\nlayer 1 same\n0 0 L\n3 0 S\n0 2 S\n2 3 L\nlayer 2 mirror-x\n0 0 S\n2 0 L\n3 2 S\n0 3 L\nallowed 2\nstack 1 2\nend\nentry 2\nid B\norder 6 6 4 1 1 1 1 1000 0 0 100 0\nreduced 6 6 4 1\ncount 8\nbound 9\nstatus open\ncert weighted\nweighting area\ntree .\nlayers 2\nlayer 1 same\n0 0 L\n4 0 S\n5 0 S\n0 1 L\n0 2 S\n1 2 S\n2 4 L\n2 5 L\nlayer 2 mirror-x\n0 0 S\n1 0 S\n2 0 L\n2 1 L\n4 2 S\n5 2 S\n0 4 L\n0 5 L\nallowed 1\nstack 1\nend\nchosen 2 count 8\nrival 2 bound 9\ndone 2\n";
+const OWN_RIVAL: &str = "\
+    pallet-choice 1\n\
+    entry 1\n\
+    id A\n\
+    order 5 5 3 2 1 10 2 1000 100 1 20 0\n\
+    reduced 5 5 3 2\n\
+    count 4\n\
+    bound 4\n\
+    status optimal\n\
+    cert weighted\n\
+    weighting area\n\
+    tree .\n\
+    layers 2\n\
+    layer 1 same\n\
+    0 0 L\n\
+    3 0 S\n\
+    0 2 S\n\
+    2 3 L\n\
+    layer 2 mirror-x\n\
+    0 0 S\n\
+    2 0 L\n\
+    3 2 S\n\
+    0 3 L\n\
+    allowed 2\n\
+    stack 1 2\n\
+    end\n\
+    entry 2\n\
+    id B\n\
+    order 6 6 4 1 1 1 1 1000 0 0 100 0\n\
+    reduced 6 6 4 1\n\
+    count 8\n\
+    bound 9\n\
+    status open\n\
+    cert weighted\n\
+    weighting area\n\
+    tree .\n\
+    layers 2\n\
+    layer 1 same\n\
+    0 0 L\n\
+    4 0 S\n\
+    5 0 S\n\
+    0 1 L\n\
+    0 2 S\n\
+    1 2 S\n\
+    2 4 L\n\
+    2 5 L\n\
+    layer 2 mirror-x\n\
+    0 0 S\n\
+    1 0 S\n\
+    2 0 L\n\
+    2 1 L\n\
+    4 2 S\n\
+    5 2 S\n\
+    0 4 L\n\
+    0 5 L\n\
+    allowed 1\n\
+    stack 1\n\
+    end\n\
+    chosen 2 count 8\n\
+    rival 2 bound 9\n\
+    done 2\n";
 
 /// What is written of it where its tail is right, and where it is not.
 const RIGHT: &str = "entry 1 yes\nentry 2 yes\nchoice yes\ndone 2\n";

@@ -8,8 +8,26 @@ use std::test::Fail;
 use std::thread::Threads;
 
 // A report of a plan and of a refused row.
-const TWO_ENTRIES: &str =
-    "pallet-report 2\nentry 1\nid A\norder 2 2 2 2 1 1 1 1 0 0 100 0\nreduced 1 1 1 1\ncount 1\nbound 1\nstatus optimal\ncert given-area\nlayers 1\nlayer 1 same\n0 0 L\nallowed 1\nstack 1\nend\nentry 2\nrefused DoesNotFit\nend\ndone 2\n";
+const TWO_ENTRIES: &str = "\
+    pallet-report 2\n\
+    entry 1\n\
+    id A\n\
+    order 2 2 2 2 1 1 1 1 0 0 100 0\n\
+    reduced 1 1 1 1\n\
+    count 1\n\
+    bound 1\n\
+    status optimal\n\
+    cert given-area\n\
+    layers 1\n\
+    layer 1 same\n\
+    0 0 L\n\
+    allowed 1\n\
+    stack 1\n\
+    end\n\
+    entry 2\n\
+    refused DoesNotFit\n\
+    end\n\
+    done 2\n";
 
 // How often the first entry looks for the second.
 const TURNS: u32 = 100_000_000;
