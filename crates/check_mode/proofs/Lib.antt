@@ -1,5 +1,4 @@
 pub mod VerdictFacts
-pub mod Today
 pub mod Copies
 pub mod NoReports
 pub mod Reports

@@ -1,18 +1,12 @@
 -- A run that got no report, as a run of each mode.
-use Rattle.std.proofs.Common.{◌≡◌, ℕ, List, [], sym, subst, refl, inl, arith}
+use Rattle.std.proofs.Common.{ℕ, List, [], sym, refl, inl, arith}
 use Rattle.std.proofs.lemmas.List.{append-nil}
-use Rattle.plan_io.specs.Streams.{Intake, Outlet, at_end}
+use Rattle.plan_io.specs.Streams.{Intake, Outlet}
 use Rattle.run_parts.specs.declared.codes.Code.{Code}
 use Rattle.run_parts.specs.declared.codes.Code.TheVariants.{Done, Findings, Usage, TooLong, NoHeader, TooManyRows, BadReport, ReadFault, WriteFault, Memory}
-use Rattle.check_mode.specs.Reading.{NoReportMeans, GotNoReport}
+use Rattle.report_reading.specs.Reading.{NoReportMeans, GotNoReport}
 use Rattle.check_mode.specs.Checks.{CheckMeans, CheckRan}
 use Rattle.check_mode.specs.Upgrades.{UpgradeMeans, UpgradeRan}
-
--- the same of bytes that were read to their end
-pub none-at-end : (from : Intake) (code : Code) (line : ℕ) (from' : Intake) (bytes same : List ℕ) → same ≡ bytes → from' ≡ at_end from bytes
-    → ((start : Intake) → GotNoReport start code line (at_end start same)) → GotNoReport from code line from'
-none-at-end from code line from' bytes same is past none =
-    subst (λ p. GotNoReport from code line p) (sym past) (subst (λ bs. GotNoReport from code line (at_end from bs)) is (none from))
 
 check-means : (from : Intake) (to : Outlet) (code : Code) (line : ℕ) (from' : Intake) (read : List ℕ) → NoReportMeans code line read from from' → CheckMeans code line read [] from from' to to
 check-means from to Done line from' read m = absurd m

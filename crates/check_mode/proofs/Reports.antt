@@ -9,12 +9,12 @@ use Rattle.cert_text.specs.declared.forms.Form.TheVariants.{Two}
 use Rattle.plan_entries.specs.declared.entries.Entry.{Entry}
 use Rattle.report_text.specs.Reports.{Report, report_text, head_text, entries_text}
 use Rattle.report_checker.specs.declared.verdicts.Verdict.{Verdict}
-use Rattle.check_mode.specs.Reading.{HasReport}
+use Rattle.report_reading.specs.Reading.{HasReport}
 use Rattle.check_mode.specs.Verdicts.{AreFirstVerdicts, verdict_lines}
 use Rattle.check_mode.specs.Checks.{CheckMeans, CheckRan, JudgedInPart, JudgedFirst, begun_text}
 use Rattle.check_mode.specs.Upgrades.{UpgradeMeans, UpgradeRan, Upgraded}
 use Rattle.check_mode.proofs.VerdictFacts.{begun-due}
-use Rattle.check_mode.proofs.Today.{report-today}
+use Rattle.report_reading.proofs.Today.{report-today}
 
 pub check-read : (from : Intake) (to : Outlet) (code : Code) (from' : Intake) (to' : Outlet) (bytes wrote : List ℕ)
     → from' ≡ at_end from bytes → to'.taken ≡ to.taken ++ wrote → to.faults ≤ to'.faults

@@ -10,7 +10,7 @@ use Rattle.plan_entries.specs.declared.entries.Entry.{Entry}
 use Rattle.report_text.specs.Reports.{Report, done_text}
 use Rattle.report_checker.specs.declared.verdicts.Verdict.{Verdict}
 use Rattle.par_judge.specs.Judged.{AreVerdicts}
-use Rattle.check_mode.specs.Reading.{most_bytes, HasReport, HasNoReport, IsReportFile}
+use Rattle.report_reading.specs.Reading.{most_bytes, HasReport, HasNoReport, IsReportFile}
 use Rattle.check_mode.specs.Verdicts.{AreFirstVerdicts, any_no, verdict_lines, verdicts_text}
 
 -- What was read is a report, and the verdicts of all its entries were written, and then their number; `found` says

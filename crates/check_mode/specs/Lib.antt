@@ -1,4 +1,3 @@
-pub mod Reading
 pub mod Verdicts
 pub mod Checks
 pub mod Upgrades

@@ -9,7 +9,7 @@ use Rattle.run_parts.specs.declared.codes.Code.TheVariants.{Done, Findings, Usag
 use Rattle.cert_text.specs.declared.forms.Form.TheVariants.{Two}
 use Rattle.plan_entries.specs.declared.entries.Entry.{Entry}
 use Rattle.report_text.specs.Reports.{Report, report_text, head_text, entries_text, AreReported}
-use Rattle.check_mode.specs.Reading.{most_bytes, HasReport, HasNoReport, IsReportFile}
+use Rattle.report_reading.specs.Reading.{most_bytes, HasReport, HasNoReport, IsReportFile}
 
 -- What was read is a report, and the report of its very entries was written in the form of today. So each entry keeps
 -- its verdict.

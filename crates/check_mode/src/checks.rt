@@ -12,13 +12,13 @@ ghost use Rattle.par_judge.specs.Judged.{AreVerdicts};
 ghost use Rattle.check_mode.specs.Verdicts.{AreFirstVerdicts, is_no as is_no_verdict, any_no, line_of, verdict_lines, verdicts_text};
 ghost use Rattle.check_mode.specs.Checks.{CheckRan, begun_text};
 
-use crate::reading::{entries_of, plain, read_bytes};
 use crate::writing::write_done;
 use par_judge::{Gate, judge_through};
 use plan_entries::Entry;
 use plan_io::{Sink, Source};
 use plan_memory::Memory;
 use report_checker::{Verdict, put_verdict};
+use report_reading::{entries_of, plain, read_bytes};
 use report_text::Entries;
 use run_parts::{Answer, Code, WriteStop, send};
 use std::alloc::Global;

@@ -4,13 +4,11 @@
 
 mod checks;
 mod laws;
-mod reading;
 mod upgrades;
 mod writing;
 
 pub use checks::{check, is_no, write_line};
 pub use laws::{checks_are_complete, upgrades_are_complete};
-pub use reading::{bad_report, plain};
 pub use upgrades::{upgrade, write_entry};
 
 #[cfg(test)]

@@ -6,24 +6,143 @@ use std::alloc::Global;
 use std::test::Fail;
 
 // A report of the first form: a layer of eight cases.
-static EIGHT: &[u8] =
-    b"pallet-report 1\nentry 1\nid EUR-400\norder 1200 800 400 300 220 8000 1600 1000000 70 0 100\nreduced 12 8 4 3\ncount 8\nbound 8\nstatus optimal\ncert weighted\nweighting area\ntree .\nlayers 1\nlayer 1 same\n0 0 S\n300 0 S\n600 0 S\n900 0 S\n0 400 S\n300 400 S\n600 400 S\n900 400 S\nallowed 7\nstack 1 1 1 1 1 1 1\nend\ndone 1\n";
+static EIGHT: &[u8] = b"\
+    pallet-report 1\n\
+    entry 1\n\
+    id EUR-400\n\
+    order 1200 800 400 300 220 8000 1600 1000000 70 0 100\n\
+    reduced 12 8 4 3\n\
+    count 8\n\
+    bound 8\n\
+    status optimal\n\
+    cert weighted\n\
+    weighting area\n\
+    tree .\n\
+    layers 1\n\
+    layer 1 same\n\
+    0 0 S\n\
+    300 0 S\n\
+    600 0 S\n\
+    900 0 S\n\
+    0 400 S\n\
+    300 400 S\n\
+    600 400 S\n\
+    900 400 S\n\
+    allowed 7\n\
+    stack 1 1 1 1 1 1 1\n\
+    end\n\
+    done 1\n";
 
 // The same in the form of today.
-static EIGHT_TODAY: &[u8] =
-    b"pallet-report 2\nentry 1\nid EUR-400\norder 1200 800 400 300 220 8000 1600 1000000 70 0 100 0\nreduced 12 8 4 3\ncount 8\nbound 8\nstatus optimal\ncert weighted\nweighting area\ntree .\nlayers 1\nlayer 1 same\n0 0 S\n300 0 S\n600 0 S\n900 0 S\n0 400 S\n300 400 S\n600 400 S\n900 400 S\nallowed 7\nstack 1 1 1 1 1 1 1\nend\ndone 1\n";
+static EIGHT_TODAY: &[u8] = b"\
+    pallet-report 2\n\
+    entry 1\n\
+    id EUR-400\n\
+    order 1200 800 400 300 220 8000 1600 1000000 70 0 100 0\n\
+    reduced 12 8 4 3\n\
+    count 8\n\
+    bound 8\n\
+    status optimal\n\
+    cert weighted\n\
+    weighting area\n\
+    tree .\n\
+    layers 1\n\
+    layer 1 same\n\
+    0 0 S\n\
+    300 0 S\n\
+    600 0 S\n\
+    900 0 S\n\
+    0 400 S\n\
+    300 400 S\n\
+    600 400 S\n\
+    900 400 S\n\
+    allowed 7\n\
+    stack 1 1 1 1 1 1 1\n\
+    end\n\
+    done 1\n";
 
 // A report of the first form: a layer of four cases, and a stack of it and its mirror.
-static FOUR: &[u8] =
-    b"pallet-report 1\nentry 1\nid A\norder 5 5 3 2 1 10 2 1000 100 1 20\nreduced 5 5 3 2\ncount 4\nbound 4\nstatus optimal\ncert weighted\nweighting area\ntree .\nlayers 2\nlayer 1 same\n0 0 L\n3 0 S\n0 2 S\n2 3 L\nlayer 2 mirror-x\n0 0 S\n2 0 L\n3 2 S\n0 3 L\nallowed 2\nstack 1 2\nend\ndone 1\n";
+static FOUR: &[u8] = b"\
+    pallet-report 1\n\
+    entry 1\n\
+    id A\n\
+    order 5 5 3 2 1 10 2 1000 100 1 20\n\
+    reduced 5 5 3 2\n\
+    count 4\n\
+    bound 4\n\
+    status optimal\n\
+    cert weighted\n\
+    weighting area\n\
+    tree .\n\
+    layers 2\n\
+    layer 1 same\n\
+    0 0 L\n\
+    3 0 S\n\
+    0 2 S\n\
+    2 3 L\n\
+    layer 2 mirror-x\n\
+    0 0 S\n\
+    2 0 L\n\
+    3 2 S\n\
+    0 3 L\n\
+    allowed 2\n\
+    stack 1 2\n\
+    end\n\
+    done 1\n";
 
 // The same in the form of today.
-static FOUR_TODAY: &[u8] =
-    b"pallet-report 2\nentry 1\nid A\norder 5 5 3 2 1 10 2 1000 100 1 20 0\nreduced 5 5 3 2\ncount 4\nbound 4\nstatus optimal\ncert weighted\nweighting area\ntree .\nlayers 2\nlayer 1 same\n0 0 L\n3 0 S\n0 2 S\n2 3 L\nlayer 2 mirror-x\n0 0 S\n2 0 L\n3 2 S\n0 3 L\nallowed 2\nstack 1 2\nend\ndone 1\n";
+static FOUR_TODAY: &[u8] = b"\
+    pallet-report 2\n\
+    entry 1\n\
+    id A\n\
+    order 5 5 3 2 1 10 2 1000 100 1 20 0\n\
+    reduced 5 5 3 2\n\
+    count 4\n\
+    bound 4\n\
+    status optimal\n\
+    cert weighted\n\
+    weighting area\n\
+    tree .\n\
+    layers 2\n\
+    layer 1 same\n\
+    0 0 L\n\
+    3 0 S\n\
+    0 2 S\n\
+    2 3 L\n\
+    layer 2 mirror-x\n\
+    0 0 S\n\
+    2 0 L\n\
+    3 2 S\n\
+    0 3 L\n\
+    allowed 2\n\
+    stack 1 2\n\
+    end\n\
+    done 1\n";
 
 // Two rows that were refused, and between them a plan that lists its layer without the mirrored ones.
-static THREE: &[u8] =
-    b"pallet-report 2\nentry 1\nrefused DoesNotFit\nend\nentry 2\nid B\norder 5 5 3 3 1 1 1 1 0 0 100 0\nreduced 1 1 1 1\ncount 1\nbound 2\nstatus open\ncert given-area\nlayers 1\nlayer 1 same\n0 0 L\nallowed 1\nstack 1\nend\nentry 3\nrefused BadId\nend\ndone 3\n";
+static THREE: &[u8] = b"\
+    pallet-report 2\n\
+    entry 1\n\
+    refused DoesNotFit\n\
+    end\n\
+    entry 2\n\
+    id B\n\
+    order 5 5 3 3 1 1 1 1 0 0 100 0\n\
+    reduced 1 1 1 1\n\
+    count 1\n\
+    bound 2\n\
+    status open\n\
+    cert given-area\n\
+    layers 1\n\
+    layer 1 same\n\
+    0 0 L\n\
+    allowed 1\n\
+    stack 1\n\
+    end\n\
+    entry 3\n\
+    refused BadId\n\
+    end\n\
+    done 3\n";
 
 fn source(alloc: Global, text: &[u8]) -> Result<MemSource, Fail> {
     Ok(MemSource::new(text.to_vec(alloc)?, 4096, Vec::new(alloc)))

@@ -10,11 +10,11 @@ ghost use Rattle.report_text.specs.Text.{entry_text};
 ghost use Rattle.report_text.specs.Reports.{head_text, entries_text, report_text};
 ghost use Rattle.check_mode.specs.Upgrades.{UpgradeRan};
 
-use crate::reading::{entries_of, plain, read_bytes};
 use crate::writing::write_done;
 use plan_entries::Entry;
 use plan_io::{Sink, Source};
 use plan_memory::Memory;
+use report_reading::{entries_of, next_entry, plain, read_bytes};
 use report_text::{Entries, put_entry, put_head};
 use run_parts::{Answer, Code, WriteStop, send};
 use std::alloc::Global;
@@ -118,17 +118,6 @@ fn write_next<K: Sink>(
         unreachable!();
     };
     write_entry(alloc, &entry, sink)
-}
-
-// The next entry, if one is left.
-fn next_entry(alloc: Global, entries: &mut Entries<'_>) -> Result<Option<Entry>, WriteStop>
-    ensures next { IfOk result (λ next. MatchOption next (entries.old.entries ≡ []) (λ e. entries.old.entries ≡ e ∷ entries.new.entries)) }
-    ensures only { IsErrOf result WriteStop.Fault → ⊥ }
-{
-    match entries.next(alloc) {
-        Ok(next) => Ok(next),
-        Err(Memory) => Err(WriteStop::Memory),
-    }
 }
 
 /// Writes the text of an entry in the form of today, which stands whole in memory before it is written.

@@ -4,7 +4,7 @@ use Rattle.plan_io.specs.Causes.{Rose}
 use Rattle.plan_io.specs.Streams.{Intake, Outlet}
 use Rattle.run_parts.specs.declared.codes.Code.{Code}
 use Rattle.run_parts.specs.declared.codes.Code.TheVariants.{Done, Findings, Usage, TooLong, NoHeader, TooManyRows, BadReport, ReadFault, WriteFault, Memory}
-use Rattle.check_mode.specs.Reading.{most_bytes}
+use Rattle.report_reading.specs.Reading.{most_bytes}
 use Rattle.choice_mode.specs.Reading.{HasNoChoice}
 use Rattle.choice_mode.specs.Judging.{ChoiceJudged, ChoiceJudgedInPart, ChoiceJudgedFirst}
 

@@ -6,7 +6,7 @@ use Rattle.plan_io.specs.Streams.{Intake}
 use Rattle.run_parts.specs.declared.codes.Code.{Code}
 use Rattle.run_parts.specs.declared.codes.Code.TheVariants.{Done, Findings, Usage, TooLong, NoHeader, TooManyRows, BadReport, ReadFault, WriteFault, Memory}
 use Rattle.choice_text.specs.Text.{ChoiceFile, file_lines, IsChoiceFile, IsChoiceIn}
-use Rattle.check_mode.specs.Reading.{most_bytes}
+use Rattle.report_reading.specs.Reading.{most_bytes}
 
 -- the bytes are the text of this choice, and no longer than a report may be
 pub record HasChoice (bytes : List ℕ) (f : ChoiceFile) : Type 0 where

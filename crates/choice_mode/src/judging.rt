@@ -21,13 +21,14 @@ ghost use Rattle.choice_mode.specs.CheckRuns.{CheckChoiceRan};
 
 use crate::reading::{choice_of, read_bytes};
 use crate::scores::keep_score;
-use check_mode::{is_no, plain, write_line};
+use check_mode::{is_no, write_line};
 use choice_text::{ChoiceText, Entries, Tail};
 use pallet_choice::{Choice, Score, choose as choice_among};
 use plan_entries::Entry;
 use plan_io::{Sink, Source};
 use plan_memory::Memory;
 use report_checker::{Verdict, judge};
+use report_reading::plain;
 use report_text::put_done;
 use run_parts::{Answer, Code, WriteStop, send};
 use std::alloc::Global;

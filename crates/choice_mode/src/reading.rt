@@ -1,13 +1,13 @@
 // Reading the text of a choice, and the answer of a run that gets none.
 ghost use Rattle.std.specs.Prelude.{◌≡◌, ◌≤◌, length, IfOk, IfErr};
 ghost use Rattle.plan_io.specs.Streams.{Intake, at_end};
-ghost use Rattle.check_mode.specs.Reading.{most_bytes};
+ghost use Rattle.report_reading.specs.Reading.{most_bytes};
 ghost use Rattle.choice_text.specs.Answers.{file_in};
 ghost use Rattle.choice_mode.specs.Reading.{HasChoice, GotNoChoice};
 
-use check_mode::{bad_report, plain};
 use choice_text::{ChoiceText, ReportFault, check_choice_text};
 use plan_io::Source;
+use report_reading::{bad_report, plain};
 use run_parts::{Answer, Code, read_input};
 use std::alloc::Global;
 

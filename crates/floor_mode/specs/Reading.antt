@@ -5,7 +5,7 @@ use Rattle.plan_io.specs.Causes.{Rose}
 use Rattle.plan_io.specs.Streams.{Intake}
 use Rattle.run_parts.specs.declared.codes.Code.{Code}
 use Rattle.run_parts.specs.declared.codes.Code.TheVariants.{Done, Findings, Usage, TooLong, NoHeader, TooManyRows, BadReport, ReadFault, WriteFault, Memory}
-use Rattle.check_mode.specs.Reading.{most_bytes}
+use Rattle.report_reading.specs.Reading.{most_bytes}
 use Rattle.floor_text.specs.declared.rows.FloorRow.{FloorRow}
 use Rattle.floor_text.specs.Text.{floor_lines, IsFloor, IsFloorIn}
 

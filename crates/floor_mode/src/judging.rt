@@ -13,11 +13,12 @@ ghost use Rattle.floor_mode.specs.CheckRuns.{CheckFloorRan};
 use crate::planning::{either, ending};
 use crate::reading::{read_bytes, rows_of};
 use crate::totals::{go_together, is_total_line};
-use check_mode::{is_no, plain};
+use check_mode::is_no;
 use floor_text::{FloorRow, Rows};
 use plan_io::{Sink, Source};
 use plan_memory::Memory;
 use report_checker::{Verdict, judge, put_verdict};
+use report_reading::plain;
 use run_parts::{Answer, Code, WriteStop, send};
 use std::alloc::Global;
 

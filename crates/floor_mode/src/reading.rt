@@ -1,15 +1,15 @@
 // Reading a floors file or the text of a floor, and the answer of a run that gets none.
 ghost use Rattle.std.specs.Prelude.{◌≡◌, ◌≤◌, List, ℕ, length, IfOk, IfErr};
 ghost use Rattle.plan_io.specs.Streams.{Intake, at_end};
-ghost use Rattle.check_mode.specs.Reading.{most_bytes};
+ghost use Rattle.report_reading.specs.Reading.{most_bytes};
 ghost use Rattle.floor_text.specs.Text.{IsFloorIn};
 ghost use Rattle.floor_mode.specs.FloorsFiles.{HasFloors, FoundNoFloors};
 ghost use Rattle.floor_mode.specs.Reading.{HasFloorText, GotNoFloor};
 
-use check_mode::{bad_report, plain};
 use floor_text::{ReportFault, Rows, check_floor_text};
 use order_reader::{ReadStop, Row};
 use plan_io::Source;
+use report_reading::{bad_report, plain};
 use run_parts::{Answer, Code, read_input};
 use std::alloc::Global;
 use truck_floor::read_floor;

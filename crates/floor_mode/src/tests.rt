@@ -139,7 +139,24 @@ fn refused_rows(rt: HostRuntime) -> Result<(), Fail> {
     assert!(rt; code == Code::Findings);
     assert_eq!(rt;
         text.as_slice(),
-        b"pallet-floor 1\nentry 1\nrefused FieldCount\nend\nentry 2\nrefused FieldCount\nend\ntotal none\nentry 3\nrefused FieldCount\nend\nentry 4\nrefused FieldCount\nend\ntotal none\ndone 4\n".as_slice()
+        b"\
+    pallet-floor 1\n\
+    entry 1\n\
+    refused FieldCount\n\
+    end\n\
+    entry 2\n\
+    refused FieldCount\n\
+    end\n\
+    total none\n\
+    entry 3\n\
+    refused FieldCount\n\
+    end\n\
+    entry 4\n\
+    refused FieldCount\n\
+    end\n\
+    total none\n\
+    done 4\n"
+            .as_slice()
     );
     Ok(())
 }

@@ -10,7 +10,7 @@ use Rattle.command_words.specs.declared.modes.Mode.TheVariants.{Plan, Check, Upg
 use Rattle.order_reader.specs.declared.rows.Row.{Row}
 use Rattle.plan_mode.specs.OrdersFiles.{HasRows}
 use Rattle.plan_mode.specs.Runs.{PlanRan}
-use Rattle.check_mode.specs.Reading.{IsReportFile}
+use Rattle.report_reading.specs.Reading.{IsReportFile}
 use Rattle.check_mode.specs.Checks.{CheckRan}
 use Rattle.check_mode.specs.Upgrades.{UpgradeRan}
 use Rattle.choice_mode.specs.Reading.{IsChoiceBytes}

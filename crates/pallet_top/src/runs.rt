@@ -7,12 +7,12 @@ ghost use Rattle.run_parts.specs.Codes.{WritesNothing};
 ghost use Rattle.command_words.specs.Accepted.{IsInRange};
 ghost use Rattle.pallet_top.specs.Words.{Asks, AsksNothing};
 ghost use Rattle.pallet_top.specs.Runs.{Ran};
-ghost use Rattle.pallet_top.specs.Ties.{WasFed, HasFed};
+ghost use Rattle.program_parts.specs.Ties.{WasFed, HasFed};
 
-use crate::tied::{Moment, TiedSink, TiedSource};
 use command_words::{Mode, mode_of};
 use par_judge::{Gate, OpenGate};
-use plan_io::{Sink, Source, StdSink, StdSource};
+use plan_io::{Sink, Source};
+use program_parts::{Finished, Moment, TiedSink, TiedSource};
 use run_parts::{Answer, Code};
 use std::alloc::Global;
 use std::io::{Read, Write};
@@ -107,14 +107,6 @@ fn plain(code: Code) -> Answer
     ensures line { result.line ≡ 0 }
 {
     Answer { code, line: 0 }
-}
-
-/// A run on a reader and a writer of std that is over: its answer, and both with their history.
-#[derive(Drop)]
-pub struct Finished<I, O> {
-    pub answer: Answer,
-    pub input: StdSource<I>,
-    pub output: StdSink<O>,
 }
 
 /// `run` on a reader and a writer of std, as standard input and standard output. The history begins with the run. Where

@@ -35,8 +35,34 @@ fn file_of(alloc: Global, row: &str) -> Result<Vec<u8>, Fail> {
 #[test]
 fn two_layers(rt: HostRuntime) -> Result<(), Fail> {
     let alloc = rt.alloc();
-    let report =
-        b"pallet-report 2\nentry 1\nid A\norder 5 5 3 2 1 10 2 1000 100 1 20 0\nreduced 5 5 3 2\ncount 4\nbound 4\nstatus optimal\ncert weighted\nweighting area\ntree .\nlayers 2\nlayer 1 same\n0 0 L\n3 0 S\n0 2 S\n2 3 L\nlayer 2 mirror-x\n0 0 S\n2 0 L\n3 2 S\n0 3 L\nallowed 2\nstack 1 2\nend\ndone 1\n".as_slice();
+    let report = b"\
+    pallet-report 2\n\
+    entry 1\n\
+    id A\n\
+    order 5 5 3 2 1 10 2 1000 100 1 20 0\n\
+    reduced 5 5 3 2\n\
+    count 4\n\
+    bound 4\n\
+    status optimal\n\
+    cert weighted\n\
+    weighting area\n\
+    tree .\n\
+    layers 2\n\
+    layer 1 same\n\
+    0 0 L\n\
+    3 0 S\n\
+    0 2 S\n\
+    2 3 L\n\
+    layer 2 mirror-x\n\
+    0 0 S\n\
+    2 0 L\n\
+    3 2 S\n\
+    0 3 L\n\
+    allowed 2\n\
+    stack 1 2\n\
+    end\n\
+    done 1\n"
+        .as_slice();
     let file = file_of(alloc, "A,5,5,3,2,1,10,2,1000,100,1,20\n")?;
     let (code, _, written) = ran(&rt, alloc, "plan", &file)?;
     assert!(rt; code == Code::Done && written.as_slice() == report);

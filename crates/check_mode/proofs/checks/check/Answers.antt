@@ -2,11 +2,12 @@ use Rattle.std.proofs.Common.{ap, arith, inr, refl, rules}
 use Rattle.std.specs.Prelude.{IsErrOf}
 use Rattle.run_parts.specs.declared.parts.WriteStop.TheVariants.{Fault as fault_stop, Memory as memory_stop}
 use Rattle.run_parts.specs.declared.codes.Code.TheVariants.{WriteFault, Memory}
-use Rattle.check_mode.specs.Reading.{HasReport}
+use Rattle.report_reading.specs.Reading.{HasReport}
 use Rattle.check_mode.specs.Verdicts.{verdict_lines}
-use Rattle.check_mode.proofs.NoReports.{check-none, none-at-end}
+use Rattle.report_reading.proofs.NoReports.{none-at-end}
+use Rattle.check_mode.proofs.NoReports.{check-none}
 use Rattle.check_mode.proofs.Reports.{check-read, judged-part, judged-first}
-use Rattle.check_mode.proofs.Today.{in-range-today}
+use Rattle.report_reading.proofs.Today.{in-range-today}
 use Rattle.check_mode.proofs.checks.check.Goals as goal
 
 pub write_verdicts-requires-clause-ranges : goal.write_verdicts-requires-clause-ranges

@@ -9,8 +9,8 @@ use Rattle.run_parts.proofs.Pieces.{wrote-trans, wrote-nil, part-then}
 use Rattle.par_judge.proofs.Joined.{verdicts-none, verdicts-append}
 use Rattle.check_mode.specs.Verdicts.{AreFirstVerdicts, any_no, verdict_lines}
 use Rattle.check_mode.proofs.VerdictFacts.{first-after, lines-after, no-more}
-use Rattle.check_mode.proofs.Copies.{all-behind}
-use Rattle.check_mode.proofs.Untouched.{untouched-trans}
+use Rattle.report_reading.proofs.Nexts.{all-behind}
+use Rattle.report_reading.proofs.Untouched.{untouched-trans}
 use Rattle.check_mode.proofs.checks.judge_entries.Goals as goal
 
 pub loop-alloc-init : goal.loop-alloc-init

@@ -7,7 +7,7 @@ use Rattle.run_parts.specs.Written.{Wrote, WrotePart}
 use Rattle.par_judge.specs.Judged.{AreVerdicts}
 use Rattle.check_mode.specs.Verdicts.{AreFirstVerdicts, verdict_lines}
 use Rattle.check_mode.proofs.VerdictFacts.{few-first, all-first, take-first, first-in, lines-in}
-use Rattle.check_mode.proofs.Copies.{all-front}
+use Rattle.report_reading.proofs.Nexts.{all-front}
 use Rattle.check_mode.proofs.checks.judge_group.Goals as goal
 
 pub judge_through-requires-clause-ranges : goal.judge_through-requires-clause-ranges

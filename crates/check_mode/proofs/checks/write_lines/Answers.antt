@@ -7,7 +7,8 @@ use Rattle.run_parts.proofs.Pieces.{wrote-trans, part-then, part-more}
 use Rattle.report_checker.specs.declared.verdicts.Verdict.TheVariants.{Yes}
 use Rattle.check_mode.specs.Verdicts.{is_no, any_no, line_of, verdict_lines}
 use Rattle.check_mode.proofs.VerdictFacts.{no-next, line-more, lines-parts}
-use Rattle.check_mode.proofs.Untouched.{untouched-trans, line-shows}
+use Rattle.report_reading.proofs.Untouched.{untouched-trans}
+use Rattle.check_mode.proofs.Untouched.{line-shows}
 use Rattle.check_mode.proofs.checks.write_lines.Goals as goal
 
 pub returns-in_err-write_line-clause-part : goal.returns-in_err-write_line-clause-part

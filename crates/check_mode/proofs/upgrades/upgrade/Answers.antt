@@ -4,11 +4,12 @@ use Rattle.run_parts.specs.declared.parts.WriteStop.TheVariants.{Memory as memor
 use Rattle.run_parts.specs.declared.codes.Code.TheVariants.{Done}
 use Rattle.cert_text.specs.declared.forms.Form.TheVariants.{Two}
 use Rattle.report_text.specs.Reports.{report_text}
-use Rattle.check_mode.specs.Reading.{HasReport}
-use Rattle.check_mode.proofs.NoReports.{upgrade-none, none-at-end}
+use Rattle.report_reading.specs.Reading.{HasReport}
+use Rattle.report_reading.proofs.NoReports.{none-at-end}
+use Rattle.check_mode.proofs.NoReports.{upgrade-none}
 use Rattle.check_mode.proofs.Reports.{upgrade-read, upgrade-memory, upgraded}
 use Rattle.check_mode.proofs.Untouched.{head-shows}
-use Rattle.check_mode.proofs.Today.{in-range-today}
+use Rattle.report_reading.proofs.Today.{in-range-today}
 use Rattle.check_mode.proofs.upgrades.upgrade.Goals as goal
 
 pub write_report-requires : goal.write_report-requires

@@ -10,7 +10,8 @@ use Rattle.run_parts.specs.Written.{Wrote, WrotePart}
 use Rattle.run_parts.proofs.Pieces.{wrote-trans, part-then}
 use Rattle.report_text.specs.Text.{entry_text}
 use Rattle.report_text.specs.Reports.{entries_text}
-use Rattle.check_mode.proofs.Copies.{one-on, copies-more}
+use Rattle.report_reading.proofs.Nexts.{one-on}
+use Rattle.check_mode.proofs.Copies.{copies-more}
 use Rattle.check_mode.proofs.upgrades.write_entries.Goals as goal
 
 pub returns-in_err-write_next-clause-part : goal.returns-in_err-write_next-clause-part

@@ -5,7 +5,7 @@ use Rattle.run_parts.specs.declared.codes.Code.TheVariants.{Findings, WriteFault
 use Rattle.cert_text.specs.declared.forms.Form.TheVariants.{Two}
 use Rattle.report_text.specs.Reports.{Report}
 use Rattle.choice_text.specs.Answers.{file_in}
-use Rattle.check_mode.proofs.Today.{in-range-today}
+use Rattle.report_reading.proofs.Today.{in-range-today}
 use Rattle.choice_mode.specs.Reading.{HasChoice}
 use Rattle.choice_mode.specs.Judging.{ChoiceJudged, judgement_text}
 use Rattle.choice_mode.proofs.Due.{judged-part}

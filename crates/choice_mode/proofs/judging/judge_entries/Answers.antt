@@ -10,8 +10,9 @@ use Rattle.run_parts.proofs.Pieces.{wrote-nil, wrote-trans, part-then}
 use Rattle.par_judge.proofs.Joined.{verdicts-none}
 use Rattle.check_mode.specs.Verdicts.{is_no, line_of, verdict_lines}
 use Rattle.check_mode.proofs.VerdictFacts.{no-next}
-use Rattle.check_mode.proofs.Copies.{one-on}
-use Rattle.check_mode.proofs.Untouched.{untouched-trans, line-shows}
+use Rattle.report_reading.proofs.Nexts.{one-on}
+use Rattle.report_reading.proofs.Untouched.{untouched-trans}
+use Rattle.check_mode.proofs.Untouched.{line-shows}
 use Rattle.choice_mode.proofs.EntryScores.{scores-kept}
 use Rattle.choice_mode.proofs.NextVerdict.{verdicts-next, line-next, first-of, lines-of}
 use Rattle.choice_mode.proofs.judging.judge_entries.Goals as goal

@@ -6,7 +6,7 @@ use Rattle.plan_entries.specs.Ranges.{IsInRange}
 use Rattle.run_parts.specs.declared.parts.WriteStop.TheVariants.{Fault, Memory}
 use Rattle.run_parts.specs.Written.{Wrote}
 use Rattle.run_parts.proofs.Pieces.{wrote-nil, wrote-trans, part-then}
-use Rattle.check_mode.proofs.Untouched.{untouched-trans}
+use Rattle.report_reading.proofs.Untouched.{untouched-trans}
 use Rattle.floor_text.specs.declared.rows.FloorRow.{FloorRow}
 use Rattle.floor_text.specs.Text.{entries_in}
 use Rattle.floor_mode.specs.Judging.{is_wrong, row_judged, rows_judged}

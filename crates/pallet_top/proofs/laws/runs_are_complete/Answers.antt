@@ -6,7 +6,7 @@ use Rattle.plan_mode.specs.Laws.{PlansAreComplete}
 use Rattle.plan_mode.specs.OrdersFiles.{HasRows}
 use Rattle.check_mode.specs.Checks.{ChecksAreComplete}
 use Rattle.check_mode.specs.Upgrades.{UpgradesAreComplete}
-use Rattle.check_mode.specs.Reading.{IsReportFile}
+use Rattle.report_reading.specs.Reading.{IsReportFile}
 use Rattle.choice_mode.specs.Reading.{IsChoiceBytes}
 use Rattle.choice_mode.specs.Laws.{ChoicesAreComplete, ChecksOfChoicesAreComplete}
 use Rattle.design_mode.specs.DesignFiles.{HasDesign}

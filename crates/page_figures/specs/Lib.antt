@@ -1,0 +1,5 @@
+pub mod Sides
+pub mod Forms
+pub mod Slabs
+pub mod Stack
+pub mod Laws

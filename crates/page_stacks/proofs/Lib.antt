@@ -1,0 +1,3 @@
+pub mod FormSteps
+pub mod PlaceSteps
+pub mod PlanRanges

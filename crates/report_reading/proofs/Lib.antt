@@ -1,0 +1,4 @@
+pub mod NoReports
+pub mod Nexts
+pub mod Today
+pub mod Untouched
